@@ -2,6 +2,7 @@
 use Rattle.std.proofs.Common.{◌≡◌, ◌≢◌, ℕ, ◌+◌, ◌-◌, ◌<◌, ◌≤◌, ◌==◌, cond, nat_lt, List, [], ◌∷◌, ◌++◌, length, get_or, set, count_by, refl, sym, ◌∙◌, ap, subst, arith}
 use Rattle.std.specs.List.{range_with_len}
 use Rattle.std.proofs.lemmas.List.{get_or-set_same, get_or-set_other, length-set, map-append}
+use Rattle.graph_model.specs.declared.limits.TheConstants.{MAX_LEAVES}
 use Rattle.leaf_index.specs.declared.chain.Chain.{Chain}
 use Rattle.leaf_index.specs.declared.route.Retired.{Retired}
 use Rattle.leaf_index.specs.Idle.{AreLinked, Idle, IsOutside, PutsLast, StandApart, idle_of, leaves_of, stamped, times_in}
@@ -96,7 +97,7 @@ last_exists links n free retired apart some =
     existing free.last n (omega (arith, here, apart free.last))
 
 -- at the start all leaves but the first are free
-pub linked_first : (links stamps : List ℕ) (free retired : Chain) (leaves : ℕ) → 1 ≤ leaves → leaves ≤ 131072 → length links ≡ leaves → length stamps ≡ leaves → leaves_of links free ≡ range_with_len 1 (leaves - 1) → leaves_of links retired ≡ [] → AreLinked links stamps free retired
+pub linked_first : (links stamps : List ℕ) (free retired : Chain) (leaves : ℕ) → 1 ≤ leaves → leaves ≤ MAX_LEAVES → length links ≡ leaves → length stamps ≡ leaves → leaves_of links free ≡ range_with_len 1 (leaves - 1) → leaves_of links retired ≡ [] → AreLinked links stamps free retired
 linked_first links stamps free retired leaves some few links_length stamps_length frees none =
     record {
       stamps_length = stamps_length ∙ sym links_length;

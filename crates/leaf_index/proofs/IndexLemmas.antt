@@ -4,6 +4,7 @@ use Rattle.std.specs.Prelude.{slice_get, option_to_list, IfNone}
 use Rattle.std.specs.List.{filter, range_with_len}
 use Rattle.std.proofs.Math.ListN.{length-set}
 use Rattle.std.proofs.lemmas.List.{length-replicate, take-append-drop}
+use Rattle.graph_model.specs.declared.limits.TheConstants.{MAX_LEAVES}
 use Rattle.graph_model.specs.declared.row.Key.{Key}
 use Rattle.graph_model.specs.Rows.{first_key, end_key}
 use Rattle.leaf_trie.specs.declared.start.LeafStart.{LeafStart}
@@ -133,7 +134,7 @@ of_none (Some x) A h e = cc
 pub first_length : (leaves : ℕ) → length (first_slots leaves) ≡ leaves
 first_length leaves = length-set (replicate leaves empty_slot) 0 whole_slot ∙ length-replicate leaves empty_slot
 
-pub kept_new : (leaves : ℕ) → 1 ≤ leaves → leaves ≤ 131072 → IsKept (first_slots leaves) (record { low = first_key; leaf = 0 } ∷ []) (range_with_len 1 (leaves - 1)) []
+pub kept_new : (leaves : ℕ) → 1 ≤ leaves → leaves ≤ MAX_LEAVES → IsKept (first_slots leaves) (record { low = first_key; leaf = 0 } ∷ []) (range_with_len 1 (leaves - 1)) []
 kept_new leaves some few =
     let wide = first_length leaves in
     record {

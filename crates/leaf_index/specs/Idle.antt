@@ -1,5 +1,6 @@
 -- Leaves that are not live, in lists whose links stand in one table.
 use Rattle.std.specs.Prelude.{ℕ, zero, suc, ◌≡◌, ◌+◌, ◌<◌, ◌≤◌, ◌==◌, cond, nat_lt, List, [], ◌∷◌, ◌++◌, map, get_or, length, count_by}
+use Rattle.graph_model.specs.declared.limits.TheConstants.{MAX_LEAVES}
 use Rattle.leaf_index.specs.declared.chain.Chain.{Chain}
 use Rattle.leaf_index.specs.declared.route.Retired.{Retired}
 
@@ -54,7 +55,7 @@ StandApart leaves free retired = (leaf : ℕ) → times_in leaf free + times_in 
 -- what is kept of the table, the stamps and the chains
 pub record AreLinked (links stamps : List ℕ) (free retired : Chain) : Type 0 where
   pub stamps_length : length stamps ≡ length links
-  pub few : length links ≤ 131072
+  pub few : length links ≤ MAX_LEAVES
   pub once : StandApart (length links) (leaves_of links free) (leaves_of links retired)
 
 -- the leaf exists, and stands in neither list

@@ -1,5 +1,6 @@
 -- What stands by the numbers of leaves.
 use Rattle.std.specs.Prelude.{ℕ, ◌≡◌, ◌≤◌, ◌==◌, Bool, true, cond, nat_lt, List, [], ◌∷◌, Option, Some, None, map, slice_get, length, count_by, replicate, set}
+use Rattle.graph_model.specs.declared.limits.TheConstants.{MAX_LEAVES}
 use Rattle.graph_model.specs.declared.row.Key.{Key}
 use Rattle.graph_model.specs.Rows.{first_key, end_key, is_between}
 use Rattle.leaf_trie.specs.declared.start.LeafStart.{LeafStart}
@@ -89,7 +90,7 @@ pub record IsKept (slots : List IndexSlot) (starts : List LeafStart) (free : Lis
   pub rising : AreRisingStarts starts
   pub have : HaveSlots slots end_key starts
   pub once : StandOnce (length slots) starts free retired
-  pub few : length slots ≤ 131072
+  pub few : length slots ≤ MAX_LEAVES
 
 -- the last leaf that begins below the key
 pub record BeginsBefore (key : Key) (starts : List LeafStart) (leaf : ℕ) : Type 0 where

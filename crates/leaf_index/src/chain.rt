@@ -3,6 +3,7 @@
 //! While a leaf stands in one chain at most, and there once, one table does for all of them.
 
 ghost use Rattle.std.specs.Prelude.{◌≡◌, ◌+◌, ◌<◌, ◌≤◌, ◌++◌, ℕ, List, [], ◌∷◌, length, reverse};
+ghost use Rattle.graph_model.specs.declared.limits.TheConstants.{MAX_LEAVES};
 ghost use Rattle.leaf_index.specs.Idle.{AreApart, AreOnceBelow, PutsLast, leaves_of, times_in};
 
 /// A list of leaves: its last one, and how many there are. The table has by each leaf the one before it. Where there
@@ -26,7 +27,7 @@ impl Chain {
 
     /// The chain with one more leaf, which it lacked. Other chains that lack it stay as they are.
     pub fn with_last(self, links: &mut Vec<u32>, leaf: u32) -> Chain
-        requires few { length links.old.items ≤ 131072 }
+        requires few { length links.old.items ≤ MAX_LEAVES }
         requires fewer { self.count < length links.old.items }
         requires exists { leaf < length links.old.items }
         requires lacks { times_in leaf (leaves_of links.old.items self) ≡ 0 }
@@ -54,7 +55,7 @@ impl Chain {
 
     /// The same leaves, from the last to the first.
     pub fn turned(self, links: &mut Vec<u32>) -> Chain
-        requires few { length links.old.items ≤ 131072 }
+        requires few { length links.old.items ≤ MAX_LEAVES }
         requires once { AreOnceBelow (length links.old.items) (leaves_of links.old.items self) }
         ensures leaves { reverse (leaves_of links.new.items result) ≡ leaves_of links.old.items self }
         ensures count { result.count ≡ self.count }

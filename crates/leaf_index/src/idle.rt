@@ -5,6 +5,7 @@
 
 ghost use Rattle.std.specs.Prelude.{◌≡◌, ◌-◌, ◌≤◌, ◌++◌, [], ◌∷◌, IfNone, IfOk, length, option_to_list, take};
 ghost use Rattle.std.specs.List.{range_with_len};
+ghost use Rattle.graph_model.specs.declared.limits.TheConstants.{MAX_LEAVES};
 ghost use Rattle.leaf_index.specs.Idle.{Idle, IsOutside};
 ghost use Rattle.leaf_index.specs.Calls.{freed_idle, freed_of};
 
@@ -41,7 +42,7 @@ impl IdleLeaves {
     /// All leaves but the first are free. Takes all the memory that the lists need.
     pub fn new(alloc: Global, leaves: u32) -> Result<IdleLeaves, NoMemory>
         requires some { 1 ≤ leaves }
-        requires few { leaves ≤ 131072 }
+        requires few { leaves ≤ MAX_LEAVES }
         ensures { IfOk result (λ i. i
             ≡ record { leaves = leaves; free = range_with_len 1 (leaves - 1); retired = [] }) }
     {

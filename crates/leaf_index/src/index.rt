@@ -17,7 +17,7 @@ use crate::hints::Hints;
 use crate::idle::IdleLeaves;
 use crate::route::{LeafRange, Route};
 use crate::slot::{IndexSlot, high_of, segment_near, segment_of};
-use graph_model::{Key, NoMemory};
+use graph_model::{Key, LEAF_SEGMENTS, NoMemory};
 use leaf_trie::{LeafStart, LeafTrie};
 use std::alloc::Global;
 use std::marker::Model;
@@ -193,7 +193,7 @@ impl LeafIndex {
         alloc: Global,
         low: Key,
         leaf: u32,
-        cuts: [Key; 8],
+        cuts: [Key; LEAF_SEGMENTS],
     ) -> Result<(), NoMemory>
         requires taken { IsTaken self.old leaf }
         requires place { CanAdd low cuts self.old.entries }
@@ -232,7 +232,7 @@ impl LeafIndex {
     }
 
     /// Gives the leaf that begins at the key these cuts, one for each of its segments.
-    pub fn set_separators(&mut self, low: Key, cuts: [Key; 8])
+    pub fn set_separators(&mut self, low: Key, cuts: [Key; LEAF_SEGMENTS])
         requires { CanCut low cuts self.old.entries }
         ensures entries { (can : CanCut low cuts self.old.entries)
             → self.new.entries ≡ with_cuts low cuts self.old.entries can }

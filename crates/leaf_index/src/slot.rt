@@ -14,7 +14,7 @@ use graph_model::{Key, LEAF_SEGMENTS};
 #[derive(Clone, Copy, Debug, PartialEq, Eq)]
 pub struct IndexSlot {
     /// In rising order; a segment without keys begins where the next one does.
-    pub cuts: [Key; 8],
+    pub cuts: [Key; LEAF_SEGMENTS],
     /// The first key beyond the leaf.
     pub high: Key,
 }
@@ -29,7 +29,7 @@ impl IndexSlot {
 }
 
 /// The last segment whose cut is not above the key. The one that is near is looked at first, if there is such a one.
-pub fn segment_near(cuts: &[Key; 8], key: Key, near: usize) -> usize
+pub fn segment_near(cuts: &[Key; LEAF_SEGMENTS], key: Key, near: usize) -> usize
     requires low { (low : _) × (slice_get cuts.now 0 ≡ Some low) × NotAbove low key }
     requires sorted { (high : _) × AreSorted cuts.now high }
     ensures { IsSegment cuts.now key result }
@@ -41,7 +41,7 @@ pub fn segment_near(cuts: &[Key; 8], key: Key, near: usize) -> usize
 }
 
 /// The same, by a look at one cut after the other, the last one first.
-pub fn segment_of(cuts: &[Key; 8], key: Key) -> usize
+pub fn segment_of(cuts: &[Key; LEAF_SEGMENTS], key: Key) -> usize
     requires { (low : _) × (slice_get cuts.now 0 ≡ Some low) × NotAbove low key }
     ensures { IsSegment cuts.now key result }
 {

@@ -1,8 +1,7 @@
 //! Changes of one cell.
 //!
 //! 1. A call changes the cell of its key alone, and keeps its fence keys.
-//! 2. Only `reserve` takes memory.
-//! 3. Where the number of rows has changed the leaf waits to be looked at, unless it is thick.
+//! 2. Where the number of rows has changed the leaf waits to be looked at, unless it is thick.
 
 ghost use Rattle.std.specs.Prelude.{◌≡◌, ◌≤◌, true, OnOk};
 ghost use Rattle.graph_model.specs.Rows.{is_below, end_key};
@@ -61,8 +60,7 @@ impl LeafStore {
         queue_change(&mut self.queue, &self.leaves, place.leaf, before, rows);
     }
 
-    /// Takes away what nobody can see from the horizon on, in the rows of the key's cell, and answers how many records
-    /// went, and where the cell ends. Where no record is left their memory is given back.
+    /// Takes away what nobody can see from the horizon on. Where no record is left their memory is given back.
     pub fn prune<S: States>(&mut self, key: Key, horizon: u64, states: &mut S) -> Pruned
         requires within { is_below key end_key ≡ true }
         requires known { horizon ≤ (S.knowledge states.old).known }

@@ -15,7 +15,7 @@ ghost use Rattle.leaf_store.specs.Fill.{AreSettled, IsFilling, IsFillStop};
 
 use crate::queue::queue_thin;
 use crate::store::LeafStore;
-use graph_model::{Key, LEAF_SEGMENTS, NoMemory, Row};
+use graph_model::{Key, NoMemory, Row};
 use leaf_index::LeafIndex;
 use leaf_queue::LeafQueue;
 use leaf_table::below::{Leaf, VersionSegment};
@@ -151,8 +151,7 @@ fn fill_rest(
 }
 
 impl LeafStore {
-    /// Rows of the first transaction, in rising order of their keys, each of them settled. As many as the density
-    /// limits allow stand in each leaf.
+    /// Rows of the first transaction, each of them settled.
     pub fn filled(alloc: Global, leaves: u32, rows: &[Row]) -> Result<LeafStore, RoomRefusal>
         requires some { 1 ≤ leaves }
         requires few { leaves ≤ MAX_LEAVES }

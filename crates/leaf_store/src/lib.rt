@@ -11,7 +11,6 @@ pub mod below;
 mod change;
 mod count;
 mod fill;
-mod leaf_range;
 mod merge;
 mod pair;
 mod place;

@@ -1,13 +1,12 @@
 //! Rows of leaves with few rows are brought together, and retired leaves are freed.
 //!
-//! 1. Each key keeps its versions.
-//! 2. The first sparse window in key order is spread. Only where no leaf has one the first two neighbours with few rows
-//!    become one leaf.
+//! 1. The first sparse window in key order is spread: one with a segment that has too few rows, and enough rows in all.
+//!    Only where no leaf has one the first two neighbours with few rows become one leaf.
 
 ghost use Rattle.std.specs.Prelude.{◌≡◌, ◌<◌, [], length, IsOk, OnErr, OnOk};
 ghost use Rattle.leaf_index.specs.Calls.{freed_of};
 ghost use Rattle.leaf_store.specs.Leaves.{record_count};
-ghost use Rattle.leaf_store.specs.Merging.{Compacts, FreesRetired, IsMergeStep, KeepsParts, KeepsVersions, MergesTwo};
+ghost use Rattle.leaf_store.specs.Merging.{Compacts, FreesRetired, IsMergeStep, KeepsParts, MergesTwo};
 ghost use Rattle.leaf_store.specs.Pairs.{IsFirstFoundPair};
 ghost use Rattle.leaf_store.specs.Queued.{IsTended};
 ghost use Rattle.leaf_store.specs.Table.{leaves_of};
@@ -24,11 +23,8 @@ use leaf_table::below::Leaf;
 use std::alloc::Global;
 
 impl LeafStore {
-    /// Spreads the first window in key order that has a segment with too few rows and enough rows in all. Where no leaf
-    /// has one it makes one leaf of the first two neighbours with few rows. Answers whether there was either. The stamp
-    /// is for the leaf that goes.
-    ///
-    /// It looks at leaves that wait alone: those whose number of rows may have changed since it last passed them.
+    /// Spreads a window or makes one leaf of two, and answers whether there was either. The stamp is for the leaf that
+    /// goes. Only leaves that wait are looked at: those whose number of rows may have changed since they were passed.
     pub fn merge_step(&mut self, stamp: u64) -> Result<bool, NoMemory>
         requires { stamp < STAMPS_END }
         ensures compacts { Compacts self.old self.new stamp }

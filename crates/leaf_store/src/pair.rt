@@ -2,7 +2,6 @@
 //!
 //! 1. The left one gets the whole range, and the right one is retired; its memory is given back at once, since the
 //!    store has one owner.
-//! 2. Memory for records is taken before the index changes.
 
 ghost use Rattle.std.specs.Prelude.{◌≡◌, ◌+◌, ◌*◌, ◌<◌, ◌≤◌, None, IfSome, IsOk, OnErr, OnOk, length, sum};
 ghost use Rattle.std.specs.List.{AllByRecursion};
@@ -87,8 +86,7 @@ pub(crate) fn total(counts: &[u8]) -> usize
     total
 }
 
-/// Brings all rows of a leaf to the left one of two neighbours, which has the range of both then. The right one is
-/// retired.
+/// Brings all rows of two neighbours to the left one, and retires the right one.
 fn merge_entries(
     index: &mut LeafIndex,
     alloc: Global,

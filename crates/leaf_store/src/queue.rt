@@ -3,7 +3,7 @@
 //! 1. An entry is a guess. Whoever takes it out looks at the leaf again, which may have changed or be retired.
 //! 2. A thick leaf needs no entry: each segment has enough rows, and all of them too many to be merged.
 
-ghost use Rattle.std.specs.Prelude.{◌≡◌, ◌<◌, ◌≤◌, ℕ, true, None, IfSome, length, slice_index, sum};
+ghost use Rattle.std.specs.Prelude.{◌≡◌, ◌<◌, ℕ, true, None, IfSome, length};
 ghost use Rattle.leaf_table.specs.LeafArray.Leaves.{IsLeaf};
 ghost use Rattle.leaf_table.specs.LeafArray.Segments.{counts_of};
 ghost use Rattle.leaf_index.specs.Calls.{IsLeafRange};
@@ -43,8 +43,7 @@ pub(crate) fn enqueue(queue: &mut LeafQueue, leaves: &Vec<Option<Box<Leaf>>>, le
     }
 }
 
-/// Puts the leaf of which a segment has changed into the queue, unless it has as many rows as before or the leaf is
-/// thick.
+/// Puts a leaf of which a segment has other rows now into the queue, unless they are as many as before or it is thick.
 pub(crate) fn queue_change(
     queue: &mut LeafQueue,
     leaves: &Vec<Option<Box<Leaf>>>,

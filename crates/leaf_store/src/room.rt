@@ -1,7 +1,6 @@
 //! Room for rows: windows that are spread, and leaves that are split.
 //!
-//! 1. Each key keeps its versions, whatever the answer is.
-//! 2. The leaves that are left wait to be looked at.
+//! 1. The leaves that are left wait to be looked at.
 
 ghost use Rattle.std.specs.Prelude.{◌≡◌, ◌<◌, ◌≤◌, ◌*◌, true, length, IfErr, IfSome, IsOk, OnErr, OnOk};
 ghost use Rattle.graph_model.specs.declared.row.Key.{Key};
@@ -33,8 +32,7 @@ use std::alloc::Global;
 use txn_manager::RoomRefusal;
 
 impl LeafStore {
-    /// Makes room for so many rows in the key's cell: spreads the smallest window that has room for them, else splits
-    /// the leaf.
+    /// Makes room for so many rows in the key's cell: spreads the smallest window that has it, else splits the leaf.
     pub fn make_room(&mut self, key: Key, need: u8) -> Result<(), RoomRefusal>
         requires within { is_below key end_key ≡ true }
         requires some { 1 ≤ need }

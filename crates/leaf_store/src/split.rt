@@ -1,7 +1,6 @@
 //! Leaves that are split.
 //!
 //! 1. The index has the new entry before rows move, so that running out of memory leaves all as it was.
-//! 2. The key at which the right leaf begins is asked for before.
 
 ghost use Rattle.std.specs.Prelude.{◌≡◌, ◌≤◌, true, [], length, IfErr, IfOk, OnErr, OnOk};
 ghost use Rattle.graph_model.specs.declared.row.Key.{Key};
@@ -58,7 +57,6 @@ pub fn split_entry(
 {
     let cuts = cuts_of(left);
     let key = split_key(left);
-    // The entry first: it may be refused memory, and then no row has moved.
     halve_range(index, alloc, cuts[0], cuts, key, leaf)?;
     match split_leaf(left, right, alloc) {
         Ok(_key) => {
@@ -102,7 +100,6 @@ fn split_with(
 }
 
 /// Splits the leaf at the place, in which no window has room, and answers the number of the right half.
-/// Where no leaf is free nothing happens.
 pub(crate) fn split_at(
     index: &mut LeafIndex,
     leaves: &mut Vec<Option<Box<Leaf>>>,

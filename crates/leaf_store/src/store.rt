@@ -2,17 +2,18 @@
 //!
 //! 1. Four cells are read ahead, so that they wait for memory side by side. Kept is the sum of what was read, in
 //!    `ahead` (`leaf_table::ahead` says why that is harmless).
+//! 2. A leaf has all keys of its range and no others, so whoever goes by ranges comes to each leaf once.
 
-ghost use Rattle.std.specs.Prelude.{◌≡◌, ◌<◌, ◌≤◌, ◌*◌, ◌-◌, true, false, length, Some, IfOk, IfErr, OnOk, OnErr, IsOk};
-ghost use Rattle.graph_model.specs.declared.limits.TheConstants.{MAX_LEAVES, SEGMENT_ROWS};
+ghost use Rattle.std.specs.Prelude.{◌≡◌, ◌≤◌, ◌-◌, true, false, length, IfOk};
+ghost use Rattle.graph_model.specs.declared.limits.TheConstants.{MAX_LEAVES};
 ghost use Rattle.graph_model.specs.declared.row.Key.{Key};
 ghost use Rattle.graph_model.specs.Rows.{is_below, is_between, end_key};
-ghost use Rattle.leaf_store.specs.Leaves.{AreLeaves, CellsAreApart, KeysHaveCells, cell_at, room_at};
-ghost use Rattle.leaf_store.specs.Changes.{AreFilled, AreNew, AreRising, IsFillRefusal, IsRoomRefusal, MovesRows};
+ghost use Rattle.leaf_store.specs.Leaves.{AreLeaves, CellsAreApart, HasWholeCells, IsLeafOf, KeysHaveCells, cell_at};
+ghost use Rattle.leaf_store.specs.Changes.{AreNew};
 
 use crate::place::place_near;
 use crate::queue::queue_thin;
-use graph_model::{Key, NoMemory, Row};
+use graph_model::{Key, NoMemory};
 use leaf_index::LeafIndex;
 use leaf_queue::LeafQueue;
 use leaf_table::below::{Leaf, NOWHERE, VersionSegment};
@@ -22,7 +23,6 @@ use leaf_table::{
 };
 use std::alloc::Global;
 use std::marker::Model;
-use txn_manager::RoomRefusal;
 
 /// The live leaves of a store. A leaf that was never live has no memory.
 #[derive(Drop)]
@@ -137,6 +137,21 @@ impl LeafStore {
     {
         let leaf = self.index.leaf_at(key).leaf as usize;
         self.ahead = sum_leaf_ahead(&self.leaves, leaf);
+    }
+
+    /// The range of the leaf that has the key. No cell is partly in it.
+    pub fn leaf_range(&self, key: Key) -> KeyRange
+        requires { is_below key end_key ≡ true }
+        ensures holds { is_between result.low result.high key ≡ true }
+        ensures whole { HasWholeCells self.now result.low result.high }
+        ensures leaf { IsLeafOf self.now result.low result.high }
+        ensures within { is_below end_key result.high ≡ false }
+    {
+        let range = self.index.leaf_at(key);
+        KeyRange {
+            low: range.low,
+            high: range.high,
+        }
     }
 
     /// Lends the cell whose fence keys hold the key.

@@ -2,7 +2,6 @@
 //!
 //! 1. The first leaf of the queue is looked at, and if nothing is to be done with it, the next one. So what is found
 //!    is the first in key order.
-//! 2. A leaf that is no longer live may still wait. It is passed when its turn comes, and until then costs a place.
 
 ghost use Rattle.std.specs.Prelude.{◌≡◌, None, IfSome, map};
 ghost use Rattle.leaf_queue.specs.Queue.{IsFirst};

@@ -19,11 +19,6 @@ pub children_lower : (level least m : ℕ) (bs : List Branch) → least ≤ m �
 children_lower level least m [] le h = tt
 children_lower level least m (b ∷ bs) le h = (record { depth = h.0.depth; from = omega (arith, le, h.0.from); some = h.0.some; here = h.0.here }, h.1)
 
--- and from a greater one on, where all of their bytes are
-pub children_raise : (level least m : ℕ) (bs : List Branch) → AllByRecursion (λ (b : Branch). m ≤ b.byte) bs → AreChildren level least bs → AreChildren level m bs
-children_raise level least m [] all h = tt
-children_raise level least m (b ∷ bs) all h = (record { depth = h.0.depth; from = all.0; some = h.0.some; here = h.0.here }, h.1)
-
 pub children_take : (level least i : ℕ) (bs : List Branch) → AreChildren level least bs → AreChildren level least (take i bs)
 children_take level least zero bs h = tt
 children_take level least (suc i) [] h = tt

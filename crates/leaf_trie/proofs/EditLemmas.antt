@@ -125,11 +125,6 @@ starts_inner last level (End low) h = absurd (omega (arith, h))
 starts_inner last level (Few bs) h = refl
 starts_inner last level (Many w) h = refl
 
-pub inner_some : (level : ℕ) (node : Node) → IsNode (level + 1) node → 0 < length (children_of node)
-inner_some level (End low) h = absurd (omega (arith, h))
-inner_some level (Few bs) h = h.0.some
-inner_some level (Many w) h = h.0.some
-
 pub inner_children : (level : ℕ) (node : Node) → IsNode (level + 1) node → AreChildren level 0 (children_of node)
 inner_children level (End low) h = absurd (omega (arith, h))
 inner_children level (Few bs) h = let same : h.0.level ≡ level = omega (arith, h.0.is) in subst (λ n. AreChildren n 0 bs.items) same h.0.children

@@ -15,7 +15,7 @@ use Rattle.leaf_trie.specs.Nodes.{all_starts, children_of, starts_of, IsNode, Is
 use Rattle.std.proofs.Math.Seq.{take-length}
 use Rattle.leaf_trie.proofs.PathLemmas.{digit_less, digit_same}
 use Rattle.leaf_trie.proofs.ListLemmas.{all_map, all_both, all_append, all_front, all_back, cut, cut_at, take_at, drop_at, append_none}
-use Rattle.leaf_trie.proofs.BranchLemmas.{starts_append, children_take, children_drop, children_at, children_raise, children_bytes, starts_under, starts_from}
+use Rattle.leaf_trie.proofs.BranchLemmas.{starts_append, children_take, children_drop, children_at, children_bytes, starts_under, starts_from}
 
 pub or_else_assoc : (a b c : Option ℕ) → or_else (or_else a b) c ≡ or_else a (or_else b c)
 or_else_assoc None b c = refl

@@ -152,9 +152,6 @@ module _ (rows : FencedRows) (heads : List ChangedRow) (c' : ChainMap) (k : Key)
 pub spare_stays : (a b a' b' : ℕ) → a ≤ a' → b ≤ b' → min a b ≤ min a' b'
 spare_stays a b a' b' p q = omega (arith, p, q)
 
-pub spare_one : (a b a' b' : ℕ) → a ≤ a' + 1 → b ≤ b' + 1 → min a b ≤ min a' b' + 1
-spare_one a b a' b' p q = omega (arith, p, q)
-
 -- ---- nothing changes
 
 without_none : (k : Key) (es : List (Key × StampedVersions)) → find key_cmp k es ≡ None → where_key key_cmp (λ q. not (eq_by_cmp key_cmp k q)) es ≡ es

@@ -139,26 +139,6 @@ module _ (rows : List Row) (place : ℕ) (fh : PlaceTable) (c : ChainMap) (th : 
 -- ---- all rows
 
 module _ (rows : List Row) (place until : ℕ) (fh : PlaceTable) (c : ChainMap) (th : PlaceTable) (d : ChainMap) (can : CanHand rows place until fh c th d) where
-  pub hands_none : place ≡ until → HandsPlaces rows place until fh fh c c th th d d
-  hands_none e =
-      let none = no_rows_from rows place until e in
-      record {
-        rows_handed = subst (λ (rs : List Row). HandsRows rs (keyed_table rows fh) (keyed_table rows fh) c c (keyed_table rows th) (keyed_table rows th) d d) (sym none) (record {
-          from_lists = can.from_lists;
-          to_lists = can.to_lists;
-          from_others = λ q w a. refl;
-          to_others = λ q w a. refl;
-          moved = refl;
-          from_rest = can.rest;
-          to_rest = λ h. h;
-          from_spare = omega arith;
-          from_entry = omega arith;
-          to_spare = omega arith;
-          to_entry = omega arith;
-        });
-        places = record { gone = λ p low high. absurd (omega (arith, low, high, e)); from_else = λ p a. refl; to_else = λ p a. refl };
-      }
-
   module _ (lt : place < until) where
     abbrev first_row : Row
     first_row = get_or rows place blank

@@ -14,7 +14,7 @@ use Rattle.gap_segment.proofs.FencedLemmas.{fenced_front, fenced_back, fenced_ap
 use Rattle.head_map.specs.UndoChain.Chains.{ChainMap, list_at, IsHeadOf, ChangesOneList}
 use Rattle.head_map.specs.declared.heads.Heads.{Heads}
 use Rattle.head_map.specs.Heads.{ChangedRow}
-use Rattle.row_table.specs.Rows.{VersionedRows, is_empty, records_in, all_records, first_key_of, SharesRows}
+use Rattle.row_table.specs.Rows.{is_empty, records_in, all_records, first_key_of, SharesRows}
 use Rattle.head_map.specs.Heads.{HeadTable, heads_at, settled_heads, is_settled}
 use Rattle.row_table.specs.Lists.{AreLists, ChangesRow, HasRest}
 use Rattle.row_table.specs.Parts.{versioned, versions_in, value_in, of_lists, view_of, AreParts, records_at_key, HandsRow, HandsRows, IsElsewhere}
@@ -405,12 +405,3 @@ module _ (l r : FencedRows) (hl hr hl' hr' : HeadTable) (c d c' d' : ChainMap) (
             ∙ sym (drop-append-add (versioned c hl.entries l.rows) (versioned d hr.entries r.rows) k) ∙ sym (ap (λ m. drop m both) grown)
 
 -- ---- segments that are what they should be
-
-module _ (hl hr : HeadTable) (c d : ChainMap) (l l' r r' : FencedRows) (left : l ≡ l') (right : r ≡ r') where
-  pub shares_as : (a b : VersionedRows) (n : ℕ) → SharesRows a b (view_of l' hl c) (view_of r' hr d) n → SharesRows a b (view_of l hl c) (view_of r hr d) n
-  shares_as a b n h =
-      subst (λ (s : FencedRows). SharesRows a b (view_of s hl c) (view_of r hr d) n) (sym left)
-      (subst (λ (s : FencedRows). SharesRows a b (view_of l' hl c) (view_of s hr d) n) (sym right) h)
-
-pub parts_as : (heads : List ChangedRow) (c : ChainMap) (l l' : FencedRows) → l ≡ l' → AreParts l' heads c → AreParts l heads c
-parts_as heads c l l' e h = subst (λ (s : FencedRows). AreParts s heads c) (sym e) h

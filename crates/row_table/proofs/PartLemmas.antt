@@ -11,7 +11,7 @@ use Rattle.store_model.specs.Stamped.{StampedVersions}
 use Rattle.gap_segment.specs.Fenced.{FencedRows, AreSorted, AreFenced, IsGapFor, with_weight}
 use Rattle.gap_segment.proofs.FencedLemmas.{fenced_insert, fenced_remove, fenced_weight}
 use Rattle.head_map.specs.UndoChainDeclared.undo.Undo.{Undo}
-use Rattle.head_map.specs.UndoChain.Records.{UndoRecord, pairs_of}
+use Rattle.head_map.specs.UndoChain.Records.{UndoRecord}
 use Rattle.head_map.specs.UndoChain.Chains.{ChainMap, record_at, unlinked, linked, walked, list_at, IsHeadOf}
 use Rattle.head_map.proofs.UndoChain.ChainLemmas.{record_there}
 use Rattle.head_map.specs.Heads.{ChangedRow}
@@ -53,10 +53,6 @@ empty_end (y ∷ ys) x = refl
 empty_touches : (us : List UndoRecord) → is_empty (touches_of us) ≡ is_empty us
 empty_touches [] = refl
 empty_touches (u ∷ us) = empty_end (touches_of us) (record { by = u.by; stamp = u.stamp; value = None })
-
-empty_pairs : (value : Option ℕ) (us : List UndoRecord) → is_empty (pairs_of value us) ≡ is_empty us
-empty_pairs value [] = refl
-empty_pairs value (u ∷ us) = refl
 
 -- what is nothing has neither a value nor records
 pub nothing_of : (value : Option ℕ) (us ts : List UndoRecord) → is_nothing (of_lists value us ts) ≡ (is_empty us && (is_empty ts && not (is_some value)))

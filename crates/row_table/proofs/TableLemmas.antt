@@ -25,9 +25,6 @@ use Rattle.head_map.proofs.HeadLemmas.{found_at, index_below, heads_there, heads
 
 -- ---- tests of places
 
-first_test : nat_eq 0 0 ≡ true
-first_test = refl
-
 later_test : (p : ℕ) → nat_eq (suc p) 0 ≡ false
 later_test p = grind (arith, nat_tests)
 

@@ -9,7 +9,7 @@ use Rattle.graph_model.specs.Transactions.{reached}
 use Rattle.store_model.specs.Stamped.{Stamped, known, stamp_one, prune_stamped, stamp}
 use Rattle.head_map.specs.UndoChain.Records.{UndoRecord, pairs_of, oldest_of, is_settled, has_writer, with_touch, without_touch, open_touches, unsettled_front, lacks_stamp, stamped_by}
 use Rattle.head_map.proofs.UndoChain.VersionLemmas.{front_is_pruned, stamp_is_stamp}
-use Rattle.row_table.specs.Rows.{new_record, has_record, written, undone, touched, untouched, records_in, newest_writer}
+use Rattle.row_table.specs.Rows.{new_record, has_record, undone, touched, untouched, records_in, newest_writer}
 use Rattle.row_table.specs.Parts.{touches_of, of_lists}
 
 -- ---- a test of the touches
@@ -53,13 +53,6 @@ kept_touches p q same (u ∷ us) =
     go false rest = rest ∙ sym (append_none (filter p (touches_of us)))
 
 -- ---- the calls
-
-pub written_lists : (by : TxnName) (value older : Option ℕ) (us ts : List UndoRecord)
-    → of_lists value (record { by = by; stamp = None; older = older } ∷ us) ts ≡ written by value (of_lists older us ts)
-written_lists by value older us ts = refl
-
-pub undone_lists : (value : Option ℕ) (u : UndoRecord) (us ts : List UndoRecord) → of_lists u.older us ts ≡ undone (of_lists value (u ∷ us) ts)
-undone_lists value u us ts = refl
 
 pub touched_lists : (by : TxnName) (value : Option ℕ) (us ts : List UndoRecord) → of_lists value us (with_touch by ts) ≡ touched by (of_lists value us ts)
 touched_lists by value us ts =

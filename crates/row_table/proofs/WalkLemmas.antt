@@ -12,9 +12,9 @@ use Rattle.store_model.proofs.CombineLemmas.{combine-assoc}
 use Rattle.head_map.specs.UndoChainDeclared.undo.Undo.{Undo}
 use Rattle.head_map.specs.UndoChainDeclared.states.Snapshot.{Snapshot}
 use Rattle.head_map.specs.UndoChain.Records.{UndoRecord, pairs_of}
-use Rattle.head_map.specs.UndoChain.Chains.{ChainMap, unlinked, list_at, IsHeadOf, IsLinkOf}
+use Rattle.head_map.specs.UndoChain.Chains.{ChainMap, unlinked, list_at, IsLinkOf}
 use Rattle.head_map.specs.UndoChain.States.{Knowledge, Grows, IsAnswer, AreNamed}
-use Rattle.head_map.proofs.UndoChain.ListLemmas.{head_link, at_link, asked_on, asked_start, grows_start, grows_chain, none_left}
+use Rattle.head_map.proofs.UndoChain.ListLemmas.{at_link, asked_on, grows_start, grows_chain, none_left}
 use Rattle.row_table.specs.Checks.{AreNamedIn, blocked, IsStateBy, AreStatesOf, blocked_by, IsChecked, drops_in}
 use Rattle.row_table.specs.Parts.{touches_of}
 use Rattle.row_table.specs.Walks.{IsOneChecked, IsTouchWalk, IsDropWalk}
@@ -99,19 +99,6 @@ checked_both old now new snapshot ps qs a b f g first second =
 -- ---- the touches
 
 module _ (c : ChainMap) (old : Knowledge) (snapshot : Snapshot) (head : Option ℕ) where
-  pub touch_start : IsHeadOf c head → AreNamed old.names (list_at c head) → IsTouchWalk c old old snapshot head head None
-  touch_start at named = record {
-    is_link = head_link c head at;
-    asked = asked_start c old head named;
-    done = [];
-    split = append_none (touches_of (list_at c head));
-    checked = checked_none old old snapshot;
-  }
-    where
-      append_none : (xs : List Stamped) → xs ++ [] ≡ xs
-      append_none [] = refl
-      append_none (x ∷ xs) = ap (λ ys. x ∷ ys) (append_none xs)
-
   module _ (now new : Knowledge) (link : Option ℕ) (cause : Option Cause) (is : IsTouchWalk c old now snapshot head link cause) where
     pub touch_on : (key : ℕ) (undo : Undo) (first : Option Cause) → link ≡ Some key → list_at c (Some key) ≡ unlinked undo ∷ list_at c undo.next → IsLinkOf c undo.next
         → Grows now new → IsOneChecked now new snapshot undo first → IsTouchWalk c old new snapshot head undo.next (combine first cause)
@@ -139,9 +126,6 @@ module _ (c : ChainMap) (old : Knowledge) (snapshot : Snapshot) (head : Option �
 -- ---- the removals
 
 module _ (c : ChainMap) (old : Knowledge) (snapshot : Snapshot) (base : Option ℕ) (head : Option ℕ) where
-  pub drop_start : IsHeadOf c head → AreNamed old.names (list_at c head) → IsDropWalk c old old snapshot base head base head None
-  drop_start at named = record { is_link = head_link c head at; asked = asked_start c old head named; rest = λ new final g h. h }
-
   module _ (now : Knowledge) (value link : Option ℕ) (cause : Option Cause) (is : IsDropWalk c old now snapshot base head value link cause) where
     -- a removal
     pub drop_on : (new : Knowledge) (key : ℕ) (undo : Undo) (first : Option Cause) → link ≡ Some key → list_at c (Some key) ≡ unlinked undo ∷ list_at c undo.next → IsLinkOf c undo.next → value ≡ None

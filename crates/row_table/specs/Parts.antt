@@ -17,7 +17,7 @@ use Rattle.head_map.specs.Heads.{ChangedRow}
 use Rattle.row_table.specs.declared.found.FoundRow.{FoundRow}
 use Rattle.head_map.specs.Keyed.{entries_by}
 use Rattle.row_table.specs.Rows.{VersionedRows, all_records}
-use Rattle.head_map.specs.Heads.{HeadTable, heads_at}
+use Rattle.head_map.specs.Heads.{HeadTable, HeadedRows, heads_at}
 use Rattle.row_table.specs.Lists.{AreLists, HasRest}
 
 -- the touches of a list, the oldest first
@@ -43,6 +43,10 @@ key_of row = row.key
 -- each row with its versions
 abbrev pub versioned : ChainMap → List ChangedRow → List Row → List (Key × StampedVersions)
 versioned c heads rows = entries_by key_of (λ row. versions_in c (heads_at heads row.key) row.weight) rows
+
+-- so many records these rows of a table have
+abbrev pub records_in : HeadedRows → ChainMap → List Row → ℕ
+records_in table c rows = all_records (versioned c table.heads.entries rows)
 
 -- what holds of the parts of each segment
 pub record AreParts (rows : FencedRows) (heads : List ChangedRow) (c : ChainMap) : Type 0 where

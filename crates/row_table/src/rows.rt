@@ -11,8 +11,7 @@ ghost use Rattle.graph_model.specs.declared.limits.TheConstants.{SEGMENT_ROWS};
 ghost use Rattle.graph_model.specs.Rows.{key_cmp, is_below, is_between};
 ghost use Rattle.gap_segment.specs.Fenced.{IsFound, IsGapFor, IsPlaceOf, AreSorted, AreWithin, with_weight};
 ghost use Rattle.head_map.specs.Heads.{heads_at, keyed_table, place_behind, settled_heads, AreSettledRows, AreWithinPlaces};
-ghost use Rattle.row_table.specs.Rows.{all_records};
-ghost use Rattle.row_table.specs.Parts.{versioned, AreParts};
+ghost use Rattle.row_table.specs.Parts.{AreParts, records_in};
 ghost use Rattle.row_table.specs.Moves.{SharesTables, MovesRoom};
 
 use crate::hand::hand_each;
@@ -256,13 +255,12 @@ impl RowTable {
         requires neighbours { self.old.fenced.high ≡ right.old.fenced.low }
         requires count { count ≤ length self.old.fenced.rows }
         requires room { length self.old.fenced.rows + length right.old.fenced.rows ≤ count + SEGMENT_ROWS }
-        requires spare { all_records (versioned chains.old self.old.heads.entries (drop count self.old.fenced.rows))
+        requires spare { records_in self.old chains.old (drop count self.old.fenced.rows)
             ≤ min right_chains.old.spare right.old.heads.spare }
         ensures moved { SharesTables self.old self.new chains.old chains.new right.old right.new
             right_chains.old right_chains.new count }
         ensures spare { MovesRoom self.old self.new chains.old chains.new right.old right.new
-            right_chains.old right_chains.new
-            (all_records (versioned chains.old self.old.heads.entries (drop count self.old.fenced.rows))) }
+            right_chains.old right_chains.new (records_in self.old chains.old (drop count self.old.fenced.rows)) }
     {
         if self.heads.is_empty() && right.heads.is_empty() {
             self.rows.share(&mut right.rows, count);
@@ -298,17 +296,16 @@ impl RowTable {
         requires neighbours { self.old.fenced.high ≡ right.old.fenced.low }
         requires rows { rows ≤ length right.old.fenced.rows }
         requires room { length self.old.fenced.rows + rows ≤ SEGMENT_ROWS }
-        requires spare { all_records (versioned right_chains.old right.old.heads.entries
-            (take rows right.old.fenced.rows)) ≤ min chains.old.spare self.old.heads.spare }
+        requires spare { records_in right.old right_chains.old (take rows right.old.fenced.rows)
+            ≤ min chains.old.spare self.old.heads.spare }
         ensures moved { SharesTables self.old self.new chains.old chains.new right.old right.new
             right_chains.old right_chains.new (length self.old.fenced.rows + rows) }
         ensures spare { MovesRoom right.old right.new right_chains.old right_chains.new self.old self.new
-            chains.old chains.new
-            (all_records (versioned right_chains.old right.old.heads.entries (take rows right.old.fenced.rows))) }
+            chains.old chains.new (records_in right.old right_chains.old (take rows right.old.fenced.rows)) }
     {
         let len = self.rows.len();
-        right.rows.is_fenced();
         let count = len + rows;
+        right.rows.is_fenced();
         if self.heads.is_empty() && right.heads.is_empty() {
             self.rows.share(&mut right.rows, count);
             return;

@@ -5,7 +5,7 @@ use Rattle.leaf_trie.specs.Starts.{last_leaf, Lacks, ShareHead, Puts}
 use Rattle.std.specs.Prelude.{insert}
 use Rattle.leaf_trie.specs.Nodes.{IsNode, IsRank, AreChildren, HasNoBranch, HasRoom, all_starts, children_of, starts_of, IsSummary}
 use Rattle.leaf_trie.proofs.SearchLemmas.{at_branches, descends}
-use Rattle.leaf_trie.proofs.EditLemmas.{at_put, starts_inner, inner_some, inner_children, kept_summary, put_summary, puts_in_branch, puts_branch, rank_same, lacks_in_branch, has_there, bytes_set, few_puts, wide_puts}
+use Rattle.leaf_trie.proofs.EditLemmas.{at_put, starts_inner, inner_children, kept_summary, put_summary, puts_in_branch, puts_branch, rank_same, lacks_in_branch, has_there, bytes_set, few_puts, wide_puts}
 use Rattle.leaf_trie.specs.declared.branch.Node.TheVariants.{Few, Many}
 use Rattle.leaf_trie.proofs.ListLemmas.{there_within}
 use Rattle.std.proofs.lemmas.Option.{slice_get_read}
