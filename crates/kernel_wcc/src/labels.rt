@@ -20,6 +20,9 @@ const SMALL: usize = 16384;
 /// More threads than these share the places no better.
 const MOST_THREADS: usize = 32;
 
+/// Among about so many places the heaviest is looked for.
+const LOOKED_AT: usize = 4096;
+
 /// The label of each place: the least place of its component.
 pub fn components<R: Threads + Sync>(
     rt: &R,
@@ -34,8 +37,8 @@ pub fn components<R: Threads + Sync>(
     let mut labels = first_labels(rt, alloc, image)?;
     join_roots(image, &mut labels);
     settle(&mut labels);
-    // The place with the most arcs is likely in the largest component, so most places have its label now and are passed
-    // over from here on.
+    // A place with many arcs is likely in the largest component, so most places have its label now and are passed over
+    // from here on.
     let large = label_of(&labels, heaviest(image));
     'places: for place in 0..image.len() {
         merge(image, place, large, &mut labels);
@@ -119,15 +122,19 @@ fn join_root(image: &Image, place: usize, labels: &mut Vec<u32>)
     join_ends(place as u32, image.out(place), labels);
 }
 
-/// A place with the most arcs out of it.
+/// Of some of the places, one with the most arcs out of it.
 fn heaviest(image: &Image) -> usize {
+    let stride = image.len() / LOOKED_AT + 1;
     let mut heavy = 0;
     let mut most = 0;
-    'places: for place in 0..image.len() {
-        let count = image.out(place).len();
-        if most < count {
-            most = count;
-            heavy = place;
+    'places: for number in 0..LOOKED_AT {
+        let place = number.saturating_mul(stride);
+        if place < image.len() {
+            let count = image.out(place).len();
+            if most < count {
+                most = count;
+                heavy = place;
+            }
         }
     }
     heavy
