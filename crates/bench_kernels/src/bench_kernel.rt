@@ -36,7 +36,13 @@ pub fn table_of<R: Threads + Sync>(
         BenchKernel::FastBfs => fast_bfs::run(rt, alloc, image, ROOT),
         BenchKernel::Wcc => Ok(kernel_wcc::run(rt, alloc, image)?),
         BenchKernel::Cdlp => Ok(kernel_cdlp::run(rt, alloc, image, ROUNDS)?),
-        BenchKernel::Sssp => delta_sssp::run_by_graph(rt, alloc, image, ROOT),
-        BenchKernel::FastSssp { width } => delta_sssp::run(rt, alloc, image, ROOT, width.max(1)),
+        BenchKernel::Sssp => kernel_sssp::run(rt, alloc, image, ROOT),
+        BenchKernel::FastSssp { width } => kernel_sssp::run_by_width(
+            rt,
+            alloc,
+            image,
+            ROOT,
+            width.max(1),
+        ),
     }
 }

@@ -1,4 +1,4 @@
-//! Shortest paths, place by place and by buckets of three widths.
+//! Shortest paths by buckets, of the graph's width and of three others.
 
 use crate::graphs::{INFINITE, assert_table, ring, triangle};
 use graph_image::Image;
@@ -15,13 +15,13 @@ fn assert_weights<R: Threads + Sync + Abort>(
     root: u64,
     want: &[(u64, u64)],
 ) -> Result<(), Fail> {
-    let table = delta_sssp::below::run(rt, alloc, image, root)?;
+    let table = kernel_sssp::run(rt, alloc, image, root)?;
     assert_table(rt, alloc, &table, want, "sssp")?;
-    let table = delta_sssp::run(rt, alloc, image, root, 1)?;
+    let table = kernel_sssp::run_by_width(rt, alloc, image, root, 1)?;
     assert_table(rt, alloc, &table, want, "fastsssp, narrow")?;
-    let table = delta_sssp::run(rt, alloc, image, root, 4)?;
+    let table = kernel_sssp::run_by_width(rt, alloc, image, root, 4)?;
     assert_table(rt, alloc, &table, want, "fastsssp")?;
-    let table = delta_sssp::run(rt, alloc, image, root, 4294967295)?;
+    let table = kernel_sssp::run_by_width(rt, alloc, image, root, 4294967295)?;
     assert_table(rt, alloc, &table, want, "fastsssp, wide")
 }
 

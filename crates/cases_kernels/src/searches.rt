@@ -40,9 +40,9 @@ fn no_search_begins_where_no_vertex_is(rt: HostRuntime) -> Result<(), Fail> {
     assert_eq!(&rt; no_root, Some(KernelRefusal::NoRoot), "bfs from 9");
     let no_root = fast_bfs::run(&rt, alloc, &path, 9).err();
     assert_eq!(&rt; no_root, Some(KernelRefusal::NoRoot), "fastbfs from 9");
-    let no_root = delta_sssp::below::run(&rt, alloc, &path, 9).err();
+    let no_root = kernel_sssp::run(&rt, alloc, &path, 9).err();
     assert_eq!(&rt; no_root, Some(KernelRefusal::NoRoot), "sssp from 9");
-    let no_root = delta_sssp::run(&rt, alloc, &path, 9, 1).err();
+    let no_root = kernel_sssp::run_by_width(&rt, alloc, &path, 9, 1).err();
     assert_eq!(&rt; no_root, Some(KernelRefusal::NoRoot), "fastsssp from 9");
     Ok(())
 }

@@ -1,3 +1,5 @@
-pub mod Lists
+pub mod ReachedLemmas
+pub mod LotLemmas
 pub mod SearchLemmas
 pub mod TableLemmas
+pub mod WeightLemmas

@@ -1,454 +1,496 @@
--- What a search knows at its start, after each step, and at its end.
-use Rattle.std.proofs.Common.{◌≡◌, ℕ, zero, suc, ◌+◌, ◌*◌, ◌<◌, ◌≤◌, ◌^◌, ◌⊎◌, inl, inr, ⊎_elim, List, [], ◌∷◌, ◌++◌, Bool, true, false, length, get_or, set, replicate, slice_get, Some, refl, sym, ap, ◌∙◌, subst, arith}
-use Rattle.std.specs.Prelude.{slice_index, sum_by, IsPermutation, swap_remove}
-use Rattle.std.proofs.lemmas.Bool.{cases_eq, cases_Bool}
-use Rattle.std.proofs.lemmas.List.{append_assoc, get_or_default, length-set, length-replicate, get_or-replicate, get_or-set_same, get_or-set_other}
+-- What a search keeps when an arc is followed, when a visit is made, and when a bucket is settled.
+use Rattle.std.proofs.Common.{◌≡◌, ℕ, ◌+◌, ◌/◌, ◌<◌, ◌≤◌, ◌^◌, ◌⊎◌, inl, inr, ⊎_elim, List, [], ◌∷◌, ◌++◌, Option, None, Some, length, set, replicate, slice_get, refl, sym, ap, ◌∙◌, subst, arith}
+use Rattle.std.specs.Prelude.{slice_index, sum_by, unwrap_or}
+use Rattle.std.specs.Ordering.{nat_cmp}
+use Rattle.std.specs.BTreeMap.{get}
+use Rattle.std.proofs.Math.Nat.{div-le_self, div-mul-le_self}
+use Rattle.std.proofs.lemmas.Nat.{le-div}
+use Rattle.std.proofs.lemmas.Bool.{cases_eq, cases_lt}
+use Rattle.std.proofs.lemmas.List.{length-append}
 use Rattle.std.proofs.lemmas.List.Sums.{sum_by-set}
-use Rattle.std.proofs.lemmas.List.Sorted.{Contains-permutation, IsPermutation-sym, IsPermutation-trans, IsPermutation-refl, IsPermutation-middle, IsPermutation-to_front, IsPermutation-append_right, IsPermutation-swap_remove, length_permutation}
-use Rattle.std.proofs.lemmas.Option.{same_Some, none-some, slice_get_within, slice_get-get_or, get_or_from_slice_get}
+use Rattle.std.proofs.lemmas.Option.{same_Some, none-some, slice_get_within}
 use Rattle.graph_model.specs.declared.limits.TheConstants.{MAX_WEIGHT}
 use Rattle.graph_image.specs.declared.edge.Arc.{Arc}
-use Rattle.graph_image.specs.Images.{Places, arcs_at}
-use Rattle.graph_image.specs.Paths.{HasPathBy}
-use Rattle.graph_image.proofs.Lists.{get_within, get_front, get_last, below_cases}
-use Rattle.kernel_sssp.specs.declared.search.PathSearch.{PathSearch}
-use Rattle.kernel_sssp.specs.declared.search.TheConstants.{UNREACHED}
-use Rattle.kernel_sssp.specs.Search.{LinkOut, IsSearched, reached, queue_of, AreQueued, IsSearch, IsRelaxed, AreRelaxed, AreRelaxedBut, work, IsStart, IsArranged, IsNext, IsEnd, IsLowered}
-use Rattle.kernel_sssp.proofs.Lists.{get_set_else, get_set_here, get_replicate, reached_some, reached_few, reached_more, reached_same}
+use Rattle.graph_image.specs.Images.{Places, arcs_at, AreWithin}
+use Rattle.graph_image.proofs.Lists.{get_pushed, get_last, get_push_cases, below_cases, only_one}
+use Rattle.kernel_sssp.specs.declared.distances.TheConstants.{UNREACHED}
+use Rattle.kernel_sssp.specs.Distances.{LinkOut, IsSearched, IsRelaxed}
+use Rattle.kernel_sssp.specs.declared.buckets.Visit.{Visit}
+use Rattle.kernel_sssp.specs.declared.buckets.Buckets.{Buckets}
+use Rattle.kernel_sssp.specs.declared.search.BucketStage.{BucketStage}
+use Rattle.kernel_sssp.specs.declared.search.BucketSearch.{BucketSearch}
+use Rattle.kernel_sssp.specs.Buckets.{visits_in, HasNone, Puts, TakesFirst}
+use Rattle.kernel_sssp.specs.Search.{AreRelaxed, IsVisit, IsVisited, IsSearch, IsSearchOf, spread, IsStart, IsPut, IsLowered, Follows, Steps, Advances, IsAmong, IsLong, HasShort, AreShort}
+use Rattle.kernel_sssp.proofs.WeightLemmas.{zero_reached, at_root, at_other, weights_start, sum_fits, sum_reached, kept_relaxed, lowered, here, there, no_greater, p_other, keeps_relaxed, now_relaxed, lowered_weights, weights_done}
 
--- zero is a weight
-zero_reached : (d : ℕ) → d ≡ 0 → d ≡ UNREACHED → ⊥
-zero_reached d zero_is none = absurd (omega arith)
+-- a greater distance is in no lower bucket
+pub bucket_rises : (x y width : ℕ) → 0 < width → x ≤ y → x / width ≤ y / width
+bucket_rises x y width wide le = le-div (x / width) y width wide (let low = div-mul-le_self x width in omega arith)
 
-in_one : (x k p : ℕ) → slice_get (x ∷ []) k ≡ Some p → x ≡ p
-in_one x zero p at = same_Some x p at
-in_one x (suc k) p at = absurd (none-some p at)
+-- ---- what a bucket has
 
-same_flag : {b : Bool} → b ≡ true → b ≡ false → ⊥
-same_flag t f = let both : true ≡ false = sym t ∙ f in absurd cc
+-- a visit that was there is there after another one was put
+put_stays : (hand bucket : ℕ) (visit : Visit) (visits visits_new : List Visit) (later later_new : Buckets) → IsPut bucket hand visit visits later visits_new later_new → (k : ℕ) (v : Visit) → slice_get visits k ≡ Some v → slice_get visits_new k ≡ Some v
+put_stays hand bucket visit visits visits_new later later_new put k v at = ⊎_elim
+    (λ now. ap (λ l. slice_get l k) now.1 ∙ get_pushed visits visit k v at)
+    (λ not_now. ap (λ l. slice_get l k) not_now.1 ∙ at)
+    put
+
+-- the visits of a bucket after another one was put
+puts_visits : (bucket : ℕ) (visit : Visit) (old new : Buckets) → Puts bucket visit old new → visits_in new bucket ≡ visits_in old bucket ++ visit ∷ []
+puts_visits bucket visit old new puts = ap (λ o. unwrap_or o []) puts.here
+
+puts_others : (bucket : ℕ) (visit : Visit) (old new : Buckets) → Puts bucket visit old new → (x : ℕ) → (x ≡ bucket → ⊥) → visits_in new x ≡ visits_in old x
+puts_others bucket visit old new puts x other = ap (λ o. unwrap_or o []) (puts.others x other)
+
+later_stays : (hand bucket : ℕ) (visit : Visit) (visits visits_new : List Visit) (later later_new : Buckets) → IsPut bucket hand visit visits later visits_new later_new → (x k : ℕ) (v : Visit) → slice_get (visits_in later x) k ≡ Some v
+    → slice_get (visits_in later_new x) k ≡ Some v
+later_stays hand bucket visit visits visits_new later later_new put x k v at = ⊎_elim
+    (λ now. ap (λ b. slice_get (visits_in b x) k) now.2 ∙ at)
+    (λ not_now. ⊎_elim
+    (λ same. ap (λ y. slice_get (visits_in later_new y) k) same ∙ ap (λ l. slice_get l k) (puts_visits bucket visit later later_new not_now.2) ∙ get_pushed (visits_in later bucket) visit k v (ap (λ y. slice_get (visits_in later y) k) (sym same) ∙ at))
+    (λ other. ap (λ l. slice_get l k) (puts_others bucket visit later later_new not_now.2 x other) ∙ at)
+    (cases_eq x bucket))
+    put
+
+-- ---- an arc that leads to a lesser distance
+
+module _ (image : Places) (stage : BucketStage) (ds : List ℕ) (visits : List Visit) (later : Buckets) (is : IsSearch image stage ds visits later)
+    (p k : ℕ) (a : Arc) (p_within : p < length image.vertices) (p_reached : slice_index ds p ≡ UNREACHED → ⊥) (p_bucket : slice_index ds p / stage.width ≡ stage.bucket)
+    (at : slice_get (arcs_at image.out p) k ≡ Some a) (q_within : a.other < length image.vertices) (light : a.weight ≤ MAX_WEIGHT)
+    (less : slice_index ds p + a.weight < slice_index ds a.other) where
+  abbrev sum : ℕ
+  sum = slice_index ds p + a.weight
+
+  abbrev new_ds : List ℕ
+  new_ds = lowered image stage.root ds is.weights p k a p_within p_reached at q_within light less
+
+  here_is : slice_index new_ds a.other ≡ sum
+  here_is = here image stage.root ds is.weights p k a p_within p_reached at q_within light less
+
+  there_is : (r : ℕ) → (r ≡ a.other → ⊥) → slice_index new_ds r ≡ slice_index ds r
+  there_is = there image stage.root ds is.weights p k a p_within p_reached at q_within light less
+
+  still_relaxed : (r : ℕ) → (r ≡ a.other → ⊥) → AreRelaxed image ds r → AreRelaxed image new_ds r
+  still_relaxed r other known j b at_j = keeps_relaxed image stage.root ds is.weights p k a p_within p_reached at q_within light less r b other (known j b at_j)
+
+  -- the place's new bucket is the one at hand or a later one
+  bucket_low : stage.bucket ≤ sum / stage.width
+  bucket_low = let rise = bucket_rises (slice_index ds p) sum stage.width is.wide (omega arith) in omega arith
+
+  module _ (visits_new : List Visit) (later_new : Buckets) (put : IsPut (sum / stage.width) stage.bucket (record { place = a.other; distance = sum }) visits later visits_new later_new) where
+    visit_right : (bucket : ℕ) → sum / stage.width ≡ bucket → IsVisit (length image.vertices) stage.width bucket (record { place = a.other; distance = sum })
+    visit_right bucket same = record { place_is = q_within; bucket_is = same; reached_is = sum_reached image stage.root ds is.weights p k a p_within p_reached at q_within light }
+
+    new_bucket : (r : ℕ) → r ≡ a.other → slice_index new_ds r / stage.width ≡ sum / stage.width
+    new_bucket r same = ap (λ x. x / stage.width) (ap (slice_index new_ds) same ∙ here_is)
+
+    -- the place is visited in the bucket at hand
+    place_here : (r : ℕ) → r ≡ a.other → slice_index new_ds r / stage.width ≡ stage.bucket → IsVisited image stage new_ds visits_new r
+    place_here r same bucket = ⊎_elim
+        (λ now. record {
+          at = length visits;
+          is = ap (λ l. slice_get l (length visits)) now.1 ∙ get_last visits (record { place = a.other; distance = sum }) ∙ ap Some (λ i. record { place = sym same i; distance = sym (ap (slice_index new_ds) same ∙ here_is) i });
+          done = λ below. absurd (let few = is.made_few in omega arith);
+        })
+        (λ not_now. absurd (not_now.0 (sym (new_bucket r same) ∙ bucket)))
+        put
+
+    -- or in a later one
+    place_there : (r : ℕ) → r ≡ a.other → stage.bucket < slice_index new_ds r / stage.width → (j : ℕ) × (slice_get (visits_in later_new (slice_index new_ds r / stage.width)) j ≡ Some (record { place = r; distance = slice_index new_ds r }))
+    place_there r same bucket = ⊎_elim
+        (λ now. absurd (let same_bucket = now.0 in let b = new_bucket r same in omega arith))
+        (λ not_now. (
+          length (visits_in later (sum / stage.width)),
+          ap (λ x. slice_get (visits_in later_new x) (length (visits_in later (sum / stage.width)))) (new_bucket r same)
+              ∙ ap (λ l. slice_get l (length (visits_in later (sum / stage.width)))) (puts_visits (sum / stage.width) (record { place = a.other; distance = sum }) later later_new not_now.2)
+              ∙ get_last (visits_in later (sum / stage.width)) (record { place = a.other; distance = sum })
+              ∙ ap Some (λ i. record { place = sym same i; distance = sym (ap (slice_index new_ds) same ∙ here_is) i }),
+        ))
+        put
+
+    pub lowered_search : IsSearch image stage new_ds visits_new later_new
+    lowered_search = record {
+      weights = lowered_weights image stage.root ds is.weights p k a p_within p_reached at q_within light less;
+      wide = is.wide;
+      made_few = ⊎_elim
+          (λ now. (let few = is.made_few in let l = ap length now.1 ∙ length-append visits (record { place = a.other; distance = sum } ∷ []) in omega arith))
+          (λ not_now. (let few = is.made_few in let l = ap length not_now.1 in omega arith))
+          put;
+      settled = λ r within below. ⊎_elim
+          (λ same. absurd (let b = new_bucket r same in let low = bucket_low in omega arith))
+          (λ other. still_relaxed r other (is.settled r within (subst (λ d. d / stage.width < stage.bucket) (there_is r other) below)))
+          (cases_eq r a.other);
+      here = λ r within reaches bucket. ⊎_elim
+          (λ same. place_here r same bucket)
+          (λ other.
+          let before = is.here r within (λ none. reaches (there_is r other ∙ none)) (ap (λ d. d / stage.width) (sym (there_is r other)) ∙ bucket) in
+          record {
+            at = before.at;
+            is = put_stays stage.bucket (sum / stage.width) (record { place = a.other; distance = sum }) visits visits_new later later_new put before.at _ before.is ∙ ap (λ d. Some (record { place = r; distance = d })) (sym (there_is r other));
+            done = λ below. still_relaxed r other (before.done below);
+          })
+          (cases_eq r a.other);
+      there = λ r within reaches bucket. ⊎_elim
+          (λ same. place_there r same bucket)
+          (λ other. let d = there_is r other in
+          let before = is.there r within (λ none. reaches (d ∙ none)) (subst (λ x. stage.bucket < x / stage.width) d bucket) in (
+            before.0,
+            subst (λ x. slice_get (visits_in later_new (x / stage.width)) before.0 ≡ Some (record { place = r; distance = x })) (sym d)
+                (later_stays stage.bucket (sum / stage.width) (record { place = a.other; distance = sum }) visits visits_new later later_new put (slice_index ds r / stage.width) before.0 _ before.1),
+          ))
+          (cases_eq r a.other);
+      above = λ x list at_x. ⊎_elim
+          (λ now. is.above x list (ap (λ b. get nat_cmp b.lists x) (sym now.2) ∙ at_x))
+          (λ not_now. ⊎_elim
+          (λ same. (let low = bucket_low in ⊎_elim (λ less_now. subst (λ y. stage.bucket < y) (sym same) less_now) (λ le. absurd (not_now.0 (let e : sum / stage.width ≡ stage.bucket = omega arith in e))) (cases_lt stage.bucket (sum / stage.width))))
+          (λ other. is.above x list (sym (not_now.2.others x other) ∙ at_x))
+          (cases_eq x (sum / stage.width)))
+          put;
+      visits_right = λ j v at_j. ⊎_elim
+          (λ now. ⊎_elim
+          (λ before. is.visits_right j v before)
+          (λ last. subst (IsVisit (length image.vertices) stage.width stage.bucket) last.1 (visit_right stage.bucket now.0))
+          (get_push_cases visits (record { place = a.other; distance = sum }) j v (ap (λ l. slice_get l j) (sym now.1) ∙ at_j)))
+          (λ not_now. is.visits_right j v (ap (λ l. slice_get l j) (sym not_now.1) ∙ at_j))
+          put;
+      later_right = λ x j v at_j. ⊎_elim
+          (λ now. is.later_right x j v (ap (λ b. slice_get (visits_in b x) j) (sym now.2) ∙ at_j))
+          (λ not_now. ⊎_elim
+          (λ same. ⊎_elim
+          (λ before. is.later_right x j v (ap (λ y. slice_get (visits_in later y) j) same ∙ before))
+          (λ last. subst (IsVisit (length image.vertices) stage.width x) last.1 (visit_right x (sym same)))
+          (get_push_cases (visits_in later (sum / stage.width)) (record { place = a.other; distance = sum }) j v
+          (ap (λ l. slice_get l j) (sym (puts_visits (sum / stage.width) (record { place = a.other; distance = sum }) later later_new not_now.2)) ∙ ap (λ y. slice_get (visits_in later_new y) j) (sym same) ∙ at_j)))
+          (λ other. is.later_right x j v (ap (λ l. slice_get l j) (sym (puts_others (sum / stage.width) (record { place = a.other; distance = sum }) later later_new not_now.2 x other)) ∙ at_j))
+          (cases_eq x (sum / stage.width)))
+          put;
+    }
+
+    -- the sum of the distances falls by at least the visit that came
+    pub lowered_spread : sum_by (λ d. d) new_ds + length visits_new ≤ sum_by (λ d. d) ds + length visits
+    lowered_spread =
+        let s = sum_by-set (λ x. x) ds a.other sum 0 (let c = is.weights.count in omega arith) in
+        ⊎_elim
+        (λ now. (let l = ap length now.1 ∙ length-append visits (record { place = a.other; distance = sum } ∷ []) in omega arith))
+        (λ not_now. (let l = ap length not_now.1 in omega arith))
+        put
+
+-- ---- the arcs of a visit so far
+
+pub record IsFollowing (image : Places) (visit : Visit) (Done : Arc → Type 0) (old s : BucketSearch) : Type 0 where
+  pub search : IsSearchOf image s
+  pub stage_is : s.stage ≡ old.stage
+  pub here_is : slice_index s.distances.items visit.place ≡ visit.distance
+  pub relaxed : (a : Arc) → Done a → IsRelaxed s.distances.items visit.place a
+  pub low : (p : ℕ) → slice_index s.distances.items p ≤ slice_index old.distances.items p
+  pub visits_stay : (k : ℕ) (v : Visit) → slice_get old.visits.items k ≡ Some v → slice_get s.visits.items k ≡ Some v
+  pub no_more : spread s ≤ spread old
+
+pub following_start : (image : Places) (visit : Visit) (Done : Arc → Type 0) (old : BucketSearch) → IsSearchOf image old → slice_index old.distances.items visit.place ≡ visit.distance → ((a : Arc) → Done a → ⊥) → IsFollowing image visit Done old old
+following_start image visit Done old is here_is none = record {
+  search = is;
+  stage_is = refl;
+  here_is = here_is;
+  relaxed = λ a done. absurd (none a done);
+  low = λ p. omega arith;
+  visits_stay = λ k v at. at;
+  no_more = omega arith;
+}
+
+module _ (image : Places) (visit : Visit) (Done Later : Arc → Type 0) (old s : BucketSearch) (so_far : IsFollowing image visit Done old s) (right : IsVisit (length image.vertices) old.stage.width old.stage.bucket visit)
+    (i : ℕ) (a : Arc) (at : slice_get (arcs_at image.out visit.place) i ≡ Some a) (a_within : a.other < length image.vertices) (light : a.weight ≤ MAX_WEIGHT) where
+  place_reached : slice_index s.distances.items visit.place ≡ UNREACHED → ⊥
+  place_reached none = right.reached_is (sym so_far.here_is ∙ none)
+
+  place_bucket : slice_index s.distances.items visit.place / s.stage.width ≡ s.stage.bucket
+  place_bucket = (λ j. so_far.here_is j / (so_far.stage_is j).width) ∙ right.bucket_is ∙ ap (λ (t : BucketStage). t.bucket) (sym so_far.stage_is)
+
+  pub following_fits : visit.distance + a.weight < UNREACHED
+  following_fits = (let f = sum_fits image s.stage.root s.distances.items so_far.search.weights visit.place i a right.place_is place_reached at a_within light in let h = so_far.here_is in omega arith)
+
+  -- an arc that leads nowhere at a lesser distance is relaxed
+  pub following_long : slice_index s.distances.items a.other ≤ visit.distance + a.weight → IsRelaxed s.distances.items visit.place a
+  following_long le = kept_relaxed image s.stage.root s.distances.items so_far.search.weights visit.place i a right.place_is place_reached at a_within light
+      (subst (λ d. slice_index s.distances.items a.other ≤ d + a.weight) (sym so_far.here_is) le)
+
+  module _ (more : (b : Arc) → Later b → Done b ⊎ (a ≡ b)) where
+    pub following_kept : slice_index s.distances.items a.other ≤ visit.distance + a.weight → IsFollowing image visit Later old s
+    following_kept le = record {
+      search = so_far.search;
+      stage_is = so_far.stage_is;
+      here_is = so_far.here_is;
+      relaxed = λ b later. ⊎_elim
+          (λ earlier. so_far.relaxed b earlier)
+          (λ now. subst (IsRelaxed s.distances.items visit.place) now (following_long le))
+          (more b later);
+      low = so_far.low;
+      visits_stay = so_far.visits_stay;
+      no_more = so_far.no_more;
+    }
+
+    module _ (new : BucketSearch) (less : visit.distance + a.weight < slice_index s.distances.items a.other) (lowers : IsLowered a.other (visit.distance + a.weight) s new) where
+      less_here : slice_index s.distances.items visit.place + a.weight < slice_index s.distances.items a.other
+      less_here = subst (λ d. d + a.weight < slice_index s.distances.items a.other) (sym so_far.here_is) less
+
+      put_here : IsPut ((slice_index s.distances.items visit.place + a.weight) / s.stage.width) s.stage.bucket (record { place = a.other; distance = slice_index s.distances.items visit.place + a.weight }) s.visits.items s.later new.visits.items new.later
+      put_here = subst (λ d. IsPut ((d + a.weight) / s.stage.width) s.stage.bucket (record { place = a.other; distance = d + a.weight }) s.visits.items s.later new.visits.items new.later) (sym so_far.here_is) lowers.put
+
+      distances_here : new.distances.items ≡ set s.distances.items a.other (slice_index s.distances.items visit.place + a.weight)
+      distances_here = lowers.distances_are ∙ ap (λ d. set s.distances.items a.other (d + a.weight)) (sym so_far.here_is)
+
+      relaxed_now : (b : Arc) → Later b → IsRelaxed (set s.distances.items a.other (slice_index s.distances.items visit.place + a.weight)) visit.place b
+      relaxed_now b later = ⊎_elim
+          (λ earlier. keeps_relaxed image s.stage.root s.distances.items so_far.search.weights visit.place i a right.place_is place_reached at a_within light less_here visit.place b
+          (p_other image s.stage.root s.distances.items so_far.search.weights visit.place i a right.place_is place_reached at a_within light less_here) (so_far.relaxed b earlier))
+          (λ now. subst (IsRelaxed (set s.distances.items a.other (slice_index s.distances.items visit.place + a.weight)) visit.place) now
+          (now_relaxed image s.stage.root s.distances.items so_far.search.weights visit.place i a right.place_is place_reached at a_within light less_here))
+          (more b later)
+
+      low_now : (p : ℕ) → slice_index new.distances.items p ≤ slice_index old.distances.items p
+      low_now p =
+          let d = ap (λ ds. slice_index ds p) distances_here in
+          let n = no_greater image s.stage.root s.distances.items so_far.search.weights visit.place i a right.place_is place_reached at a_within light less_here p in
+          let l = so_far.low p in
+          omega arith
+
+      pub following_lowered : IsFollowing image visit Later old new
+      following_lowered = record {
+        search = subst (λ (t : BucketStage). IsSearch image t new.distances.items new.visits.items new.later) (sym lowers.stage_is)
+            (subst (λ ds. IsSearch image s.stage ds new.visits.items new.later) (sym distances_here)
+            (lowered_search image s.stage s.distances.items s.visits.items s.later so_far.search visit.place i a right.place_is place_reached place_bucket at a_within light less_here new.visits.items new.later put_here));
+        stage_is = lowers.stage_is ∙ so_far.stage_is;
+        here_is = ap (λ ds. slice_index ds visit.place) distances_here
+            ∙ there image s.stage.root s.distances.items so_far.search.weights visit.place i a right.place_is place_reached at a_within light less_here visit.place
+            (p_other image s.stage.root s.distances.items so_far.search.weights visit.place i a right.place_is place_reached at a_within light less_here)
+            ∙ so_far.here_is;
+        relaxed = λ b later. subst (λ ds. IsRelaxed ds visit.place b) (sym distances_here) (relaxed_now b later);
+        low = low_now;
+        visits_stay = λ k v at_k. put_stays s.stage.bucket _ _ s.visits.items new.visits.items s.later new.later put_here k v (so_far.visits_stay k v at_k);
+        no_more = (let d = ap (sum_by (λ x. x)) distances_here in
+            let l = lowered_spread image s.stage s.distances.items s.visits.items s.later so_far.search visit.place i a right.place_is place_reached place_bucket at a_within light less_here new.visits.items new.later put_here in
+            let m = so_far.no_more in omega arith);
+      }
+
+-- among those before one number more is what stood before, and the arc at that number
+pub among_more : (arcs : List Arc) (from i : ℕ) (a b : Arc) → slice_get arcs i ≡ Some a → IsAmong arcs from (i + 1) b → IsAmong arcs from i b ⊎ (a ≡ b)
+among_more arcs from i a b at among = ⊎_elim
+    (λ earlier. inl (among.0, among.1, earlier, among.3))
+    (λ now. inr (same_Some a b (sym at ∙ ap (slice_get arcs) (sym now) ∙ among.3)))
+    (below_cases among.0 i among.2)
+
+-- past all arcs
+pub followed : (image : Places) (visit : Visit) (Done : Arc → Type 0) (old s : BucketSearch) → IsFollowing image visit Done old s → IsVisit (length image.vertices) old.stage.width old.stage.bucket visit
+    → ((k : ℕ) (a : Arc) → slice_get (arcs_at image.out visit.place) k ≡ Some a → Done a ⊎ IsLong (length image.vertices) old.distances.items visit a) → Follows image visit old s
+followed image visit Done old s so_far right all = record {
+  search = so_far.search;
+  stage_is = so_far.stage_is;
+  relaxed = λ same k a at. ⊎_elim
+      (λ done. so_far.relaxed a done)
+      (λ long. following_long image visit Done Done old s so_far right k a at long.within long.light (let l = so_far.low a.other in let le = long.no_less in omega arith))
+      (all k a at);
+  low = so_far.low;
+  visits_stay = so_far.visits_stay;
+  no_more = so_far.no_more;
+}
+
+-- all arcs of the place have those that are short
+pub all_short : (image : Places) (distances : List ℕ) (visit : Visit) (arcs : List Arc) (until : ℕ) → arcs ≡ arcs_at image.out visit.place → until ≡ length arcs → AreWithin (length image.vertices) arcs → HasShort image distances visit arcs 0 until
+all_short image distances visit arcs until same long within = record {
+  only = λ a among. (within among.0 a among.3, (among.0, ap (λ l. slice_get l among.0) (sym same) ∙ among.3));
+  all = λ k a at. (let here : slice_get arcs k ≡ Some a = ap (λ l. slice_get l k) same ∙ at in let below = slice_get_within arcs k a here in inl (k, omega arith, omega arith, here));
+}
+
+-- a visit without a short arc needs none to be followed
+pub none_short : (image : Places) (visit : Visit) (arcs : List Arc) (from until : ℕ) (old : BucketSearch) → IsSearchOf image old → IsVisit (length image.vertices) old.stage.width old.stage.bucket visit → until ≤ from
+    → AreShort image old.distances.items visit arcs from until → Follows image visit old old
+none_short image visit arcs from until old is right empty short = record {
+  search = is;
+  stage_is = refl;
+  relaxed = λ same k a at. ⊎_elim
+      (λ gone. absurd (omega arith))
+      (λ (has : HasShort image old.distances.items visit arcs from until). ⊎_elim
+      (λ among. absurd (let x = among.1 in let y = among.2 in omega arith))
+      (λ long. following_long image visit (λ b. ⊥) (λ b. ⊥) old old (following_start image visit (λ b. ⊥) old is same (λ b no. no)) right k a at long.within long.light long.no_less)
+      (has.all k a at))
+      short;
+  low = λ p. omega arith;
+  visits_stay = λ k v at. at;
+  no_more = omega arith;
+}
+
+-- one that counts has them
+pub short_counts : (image : Places) (distances : List ℕ) (visit : Visit) (arcs : List Arc) (from until : ℕ) → slice_index distances visit.place ≡ visit.distance → AreShort image distances visit arcs from until → HasShort image distances visit arcs from until
+short_counts image distances visit arcs from until same short = ⊎_elim (λ gone. absurd (omega arith)) (λ has. has) short
+
+-- a visit that doesn't count
+pub not_followed : (image : Places) (visit : Visit) (old : BucketSearch) → IsSearchOf image old → (slice_index old.distances.items visit.place ≡ visit.distance → ⊥) → Follows image visit old old
+not_followed image visit old is other = record {
+  search = is;
+  stage_is = refl;
+  relaxed = λ same. absurd (other same);
+  low = λ p. omega arith;
+  visits_stay = λ k v at. at;
+  no_more = omega arith;
+}
+
+-- ---- one visit more
+
+module _ (image : Places) (visit : Visit) (old mid : BucketSearch) (follows : Follows image visit old mid) where
+  -- a place that is visited by this visit has its arcs relaxed
+  relaxed_by : (n p : ℕ) → slice_get old.visits.items n ≡ Some visit → slice_get mid.visits.items n ≡ Some (record { place = p; distance = slice_index mid.distances.items p }) → AreRelaxed image mid.distances.items p
+  relaxed_by n p at is =
+      let same : visit ≡ record { place = p; distance = slice_index mid.distances.items p } = same_Some visit (record { place = p; distance = slice_index mid.distances.items p }) (sym (follows.visits_stay n visit at) ∙ is) in
+      let place : visit.place ≡ p = ap (λ (v : Visit). v.place) same in
+      let distance : visit.distance ≡ slice_index mid.distances.items p = ap (λ (v : Visit). v.distance) same in
+      subst (AreRelaxed image mid.distances.items) place (follows.relaxed (ap (slice_index mid.distances.items) place ∙ sym distance))
+
+pub stepped : (image : Places) (visit : Visit) (old mid : BucketSearch) → slice_get old.visits.items old.stage.made ≡ Some visit → Follows image visit old mid → Steps image old (record mid { stage = record mid.stage { made = mid.stage.made + 1 } })
+stepped image visit old mid at follows =
+    let is = follows.search in
+    let stage = follows.stage_is in
+    let made_is : mid.stage.made ≡ old.stage.made = ap (λ (t : BucketStage). t.made) stage in
+    let below = slice_get_within mid.visits.items old.stage.made visit (follows.visits_stay old.stage.made visit at) in
+    record {
+      search = record {
+        weights = is.weights;
+        wide = is.wide;
+        made_few = omega arith;
+        settled = is.settled;
+        here = λ p within reaches bucket. (let v = is.here p within reaches bucket in record {
+          at = v.at;
+          is = v.is;
+          done = λ low. ⊎_elim
+              (λ earlier. v.done earlier)
+              (λ now. relaxed_by image visit old mid follows v.at p (ap (slice_get old.visits.items) (now ∙ made_is) ∙ at) v.is)
+              (below_cases v.at mid.stage.made low);
+        });
+        there = is.there;
+        above = is.above;
+        visits_right = is.visits_right;
+        later_right = is.later_right;
+      };
+      root_is = ap (λ (t : BucketStage). t.root) stage;
+      bucket_is = ap (λ (t : BucketStage). t.bucket) stage;
+      made_is = ap (λ n. n + 1) made_is;
+      low = follows.low;
+      visits_stay = follows.visits_stay;
+      nearer = (let m = follows.no_more in omega arith);
+    }
+
+-- ---- a bucket that is settled
+
+-- a bucket with a visit is in use
+in_use : (buckets : Buckets) (x k : ℕ) (v : Visit) (list : Option (List Visit)) → get nat_cmp buckets.lists x ≡ list → slice_get (visits_in buckets x) k ≡ Some v → (visits : List Visit) × (get nat_cmp buckets.lists x ≡ Some visits)
+in_use buckets x k v None none at = absurd (none-some v (ap (λ o. slice_get (unwrap_or o []) k) (sym none) ∙ at))
+in_use buckets x k v (Some list) some at = (list, some)
+
+module _ (image : Places) (stage : BucketStage) (ds : List ℕ) (visits : List Visit) (later : Buckets) (is : IsSearch image stage ds visits later) (all : length visits ≤ stage.made) where
+  -- the arcs out of places below all later buckets are relaxed
+  pub relaxed_below : (bound : ℕ) → ((x : ℕ) (list : List Visit) → get nat_cmp later.lists x ≡ Some list → bound ≤ x) → (p : ℕ) → p < length image.vertices → slice_index ds p / stage.width < bound → AreRelaxed image ds p
+  relaxed_below bound least p within low k a at is_reached =
+      ⊎_elim
+      (λ before. is.settled p within before k a at is_reached)
+      (λ not_before. ⊎_elim
+      (λ same.
+      let v = is.here p within is_reached same in
+      let below = slice_get_within visits v.at _ v.is in
+      v.done (omega arith) k a at is_reached)
+      (λ other.
+      let after = is.there p within is_reached (omega arith) in
+      let used = in_use later (slice_index ds p / stage.width) after.0 _ (get nat_cmp later.lists (slice_index ds p / stage.width)) refl after.1 in
+      let high = least (slice_index ds p / stage.width) used.0 used.1 in
+      absurd (omega arith))
+      (cases_eq (slice_index ds p / stage.width) stage.bucket))
+      (cases_lt (slice_index ds p / stage.width) stage.bucket)
+
+  -- with no later bucket, all is done
+  pub search_done : HasNone later → IsSearched (LinkOut image) stage.root (length image.vertices) ds
+  search_done none = weights_done image stage.root ds is.weights
+      (λ p k a within at. relaxed_below (slice_index ds p / stage.width + 1) (λ x list some. absurd (none-some list (sym (none x) ∙ some))) p within (omega arith) k a at)
+
+  module _ (bucket : ℕ) (visits_new : List Visit) (later_new : Buckets) (takes : TakesFirst bucket visits_new later later_new) where
+    rises : stage.bucket < bucket
+    rises = is.above bucket visits_new takes.was
+
+    taken : visits_in later bucket ≡ visits_new
+    taken = ap (λ o. unwrap_or o []) takes.was
+
+    others_stay : (x : ℕ) → (x ≡ bucket → ⊥) → visits_in later_new x ≡ visits_in later x
+    others_stay x other = ap (λ o. unwrap_or o []) (takes.others x other)
+
+    pub next_search : IsSearch image (record stage { bucket = bucket; made = 0 }) ds visits_new later_new
+    next_search = record {
+      weights = is.weights;
+      wide = is.wide;
+      made_few = omega arith;
+      settled = λ p within low. relaxed_below bucket takes.least p within low;
+      here = λ p within reaches same. (let before = is.there p within reaches (let r = rises in omega arith) in record {
+        at = before.0;
+        is = ap (λ l. slice_get l before.0) (sym taken ∙ ap (visits_in later) (sym same)) ∙ before.1;
+        done = λ low. absurd (omega arith);
+      });
+      there = λ p within reaches high.
+          let before = is.there p within reaches (let r = rises in omega arith) in
+          (before.0, ap (λ l. slice_get l before.0) (others_stay (slice_index ds p / stage.width) (λ same. absurd (omega arith))) ∙ before.1);
+      above = λ x list at. ⊎_elim
+          (λ same. absurd (none-some list (sym takes.gone ∙ ap (get nat_cmp later_new.lists) (sym same) ∙ at)))
+          (λ other. (let least = takes.least x list (sym (takes.others x other) ∙ at) in ⊎_elim (λ less. less) (λ le. absurd (other (let e : x ≡ bucket = omega arith in e))) (cases_lt bucket x)))
+          (cases_eq x bucket);
+      visits_right = λ k v at. is.later_right bucket k v (ap (λ l. slice_get l k) taken ∙ at);
+      later_right = λ x k v at. ⊎_elim
+          (λ same. absurd (none-some v (ap (λ o. slice_get (unwrap_or o []) k) (sym takes.gone) ∙ ap (λ y. slice_get (visits_in later_new y) k) (sym same) ∙ at)))
+          (λ other. is.later_right x k v (ap (λ l. slice_get l k) (sym (others_stay x other)) ∙ at))
+          (cases_eq x bucket);
+    }
+
+-- after the first of the later buckets is at hand
+pub advanced : (image : Places) (old new : BucketSearch) → IsSearchOf image old → length old.visits.items ≤ old.stage.made → Advances old new → IsSearchOf image new
+advanced image old new is all next = subst (λ (t : BucketStage). IsSearch image t new.distances.items new.visits.items new.later) (sym next.stage_is)
+    (subst (λ ds. IsSearch image (record old.stage { bucket = new.stage.bucket; made = 0 }) ds new.visits.items new.later) (sym next.distances_are)
+    (next_search image old.stage old.distances.items old.visits.items old.later is all new.stage.bucket new.visits.items new.later next.takes))
+
+-- and that is a higher one
+pub advanced_bucket : (image : Places) (old new : BucketSearch) → IsSearchOf image old → Advances old new → old.stage.bucket < new.stage.bucket
+advanced_bucket image old new is next = is.above new.stage.bucket new.visits.items next.takes.was
 
 -- ---- the start
 
-module _ (image : Places) (root : ℕ) (few : length image.vertices < 2 ^ 32) (below : root < length image.vertices) (s : PathSearch) (start : IsStart (length image.vertices) root s) where
-  long : length (replicate (length image.vertices) UNREACHED) ≡ length image.vertices
-  long = length-replicate (length image.vertices) UNREACHED
+nothing_in : (buckets : Buckets) → HasNone buckets → (x k : ℕ) (v : Visit) → slice_get (visits_in buckets x) k ≡ Some v → ⊥
+nothing_in buckets none x k v at = none-some v (ap (λ o. slice_get (unwrap_or o []) k) (sym (none x)) ∙ at)
 
-  at_root : slice_index s.distances.items root ≡ 0
-  at_root = ap (λ ds. slice_index ds root) start.distances ∙ get_or-set_same (replicate (length image.vertices) UNREACHED) root 0 0 (let l = long in omega arith)
+zero_bucket : (width d : ℕ) → d ≡ 0 → d / width ≡ 0
+zero_bucket width d zero_is = (let low = div-le_self d width in omega arith)
 
-  at_other : (p : ℕ) → p < length image.vertices → (p ≡ root → ⊥) → slice_index s.distances.items p ≡ UNREACHED
-  at_other p within other = ap (λ ds. slice_index ds p) start.distances ∙ get_or-set_other (replicate (length image.vertices) UNREACHED) root p 0 0 other ∙ get_or-replicate (length image.vertices) p UNREACHED 0 within
-
-  at_start : slice_index s.distances.items s.root ≡ 0
-  at_start = ap (slice_index s.distances.items) start.root_is ∙ at_root
-
-  count_start : length s.distances.items ≡ length image.vertices
-  count_start = ap length start.distances ∙ length-set (replicate (length image.vertices) UNREACHED) root 0 ∙ long
-
-  -- just the root waits
-  root_waits : (p : ℕ) (b : Bool) → slice_get s.waiting.items p ≡ Some b → (p ≡ root → true ≡ b) × ((p ≡ root → ⊥) → false ≡ b)
-  root_waits p b at =
-      let there = ap (λ ws. slice_get ws p) (sym start.waiting) ∙ at in (
-        λ same. get_set_here (replicate (length image.vertices) false) root true b (subst (λ q. slice_get (set (replicate (length image.vertices) false) root true) q ≡ Some b) same there),
-        λ other. get_replicate (length image.vertices) p false b (get_set_else (replicate (length image.vertices) false) root p true b other there),
-      )
-
-  pub started : IsSearch image s
-  started = record {
-    few = few;
-    count = count_start;
-    flags = ap length start.waiting ∙ length-set (replicate (length image.vertices) false) root true ∙ length-replicate (length image.vertices) false;
-    start = at_start;
-    sound = λ p within is. ⊎_elim
-        (λ same. (0, (start.root_is ∙ sym same, ap (slice_index s.distances.items) same ∙ at_root)))
-        (λ other. absurd (is (at_other p within other)))
-        (cases_eq p root);
-    bound = λ p within is. ⊎_elim
-        (λ same. (let zero_is = ap (slice_index s.distances.items) same ∙ at_root in
-        let some = reached_some s.distances.items p (let c = count_start in omega arith) is in omega arith))
-        (λ other. absurd (is (at_other p within other)))
-        (cases_eq p root);
-    waits = λ p at. ⊎_elim
-        (λ same. (0, ap (λ q. slice_get q 0) start.queue ∙ ap Some (sym same)))
-        (λ other. absurd (let no = (root_waits p true at).1 other in same_flag {b = true} refl (sym no)))
-        (cases_eq p root);
-    within = λ k p at. (let same = in_one root k p (ap (λ q. slice_get q k) (sym start.queue) ∙ at) in subst (λ q. q < length image.vertices) same below);
-    queued = λ k p at. (let same = in_one root k p (ap (λ q. slice_get q k) (sym start.queue) ∙ at) in zero_reached (slice_index s.distances.items p) (ap (slice_index s.distances.items) (sym same) ∙ at_root));
-  }
-
-  pub relaxed_start : AreRelaxed image s
-  relaxed_start p k a waits at = λ is. ⊎_elim
-      (λ same. absurd (let yes = (root_waits p false waits).0 same in same_flag {b = true} refl yes))
-      (λ other. absurd (is (at_other p (let f = slice_get_within s.waiting.items p false waits in
-      let l = ap length start.waiting ∙ length-set (replicate (length image.vertices) false) root true ∙ length-replicate (length image.vertices) false in omega arith) other)))
-      (cases_eq p root)
-
--- ---- the next place
-
--- what stands in a list stands in each order of it
-in_order : (xs ys : List ℕ) → IsPermutation xs ys → (k p : ℕ) → slice_get xs k ≡ Some p → (j : ℕ) × (slice_get ys j ≡ Some p)
-in_order xs ys moved k p at =
-    let there = Contains-permutation xs ys p moved (k, slice_get_within xs k p at, get_or_from_slice_get xs k p p at) in
-    (there.0, slice_get-get_or ys there.0 p there.1 ∙ ap Some there.2)
-
--- the queue in another order
-pub queued_in_order : (n : ℕ) (xs ys : List ℕ) → IsPermutation xs ys → AreQueued n xs → AreQueued n ys
-queued_in_order n xs ys moved within k p at = let there = in_order ys xs (IsPermutation-sym xs ys moved) k p at in within there.0 p there.1
-
-later_one : (place k p : ℕ) (rest : List ℕ) → (p ≡ place → ⊥) → slice_get (place ∷ rest) k ≡ Some p → (j : ℕ) × (slice_get rest j ≡ Some p)
-later_one place zero p rest other at = absurd (other (sym (same_Some place p at)))
-later_one place (suc k) p rest other at = (k, at)
-
-module _ (image : Places) (old new : PathSearch) (is : IsSearch image old) (place : ℕ) (next : IsNext place old new) where
-  first : (k : ℕ) × (slice_get (queue_of old) k ≡ Some place)
-  first = in_order (place ∷ queue_of new) (queue_of old) (IsPermutation-sym (queue_of old) (place ∷ queue_of new) next.queue) 0 place refl
-
-  pub next_within : place < length image.vertices
-  next_within = is.within first.0 place first.1
-
-  same_distance : (p : ℕ) → slice_index new.distances.items p ≡ slice_index old.distances.items p
-  same_distance p = ap (λ ds. slice_index ds p) next.distances
-
-  pub next_reached : slice_index new.distances.items place ≡ UNREACHED → ⊥
-  next_reached none = is.queued first.0 place first.1 (sym (same_distance place) ∙ none)
-
-  -- the other flags are as they were
-  other_flag : (p : ℕ) (b : Bool) → (p ≡ place → ⊥) → slice_get new.waiting.items p ≡ Some b → slice_get old.waiting.items p ≡ Some b
-  other_flag p b other at = get_set_else old.waiting.items place p false b other (ap (λ ws. slice_get ws p) (sym next.waiting) ∙ at)
-
-  in_old : (k p : ℕ) → slice_get (queue_of new) k ≡ Some p → (j : ℕ) × (slice_get (queue_of old) j ≡ Some p)
-  in_old k p at = in_order (place ∷ queue_of new) (queue_of old) (IsPermutation-sym (queue_of old) (place ∷ queue_of new) next.queue) (suc k) p at
-
-  pub next_search : IsSearch image new
-  next_search = record {
-    few = is.few;
-    count = ap length next.distances ∙ is.count;
-    flags = ap length next.waiting ∙ length-set old.waiting.items place false ∙ is.flags;
-    start = ap (slice_index new.distances.items) next.root ∙ same_distance old.root ∙ is.start;
-    sound = λ p within reaches. (
-        let path = is.sound p within (λ none. reaches (same_distance p ∙ none)) in
-        (path.0, subst (λ r. HasPathBy (LinkOut image) r path.0 p (slice_index new.distances.items p)) (sym next.root) (subst (λ d. HasPathBy (LinkOut image) old.root path.0 p d) (sym (same_distance p)) path.1)));
-    bound = λ p within reaches. (
-        let b = is.bound p within (λ none. reaches (same_distance p ∙ none)) in
-        let d = same_distance p in
-        let r = ap reached next.distances in
-        omega arith);
-    waits = λ p at. ⊎_elim
-        (λ same. absurd (let no = get_set_here old.waiting.items place false true (subst (λ q. slice_get (set old.waiting.items place false) q ≡ Some true) same (ap (λ ws. slice_get ws p) (sym next.waiting) ∙ at)) in same_flag {b = true} refl (sym no)))
-        (λ other. let there = is.waits p (other_flag p true other at) in let here = in_order (queue_of old) (place ∷ queue_of new) next.queue there.0 p there.1 in later_one place here.0 p (queue_of new) other here.1)
-        (cases_eq p place);
-    within = λ k p at. (let there = in_old k p at in is.within there.0 p there.1);
-    queued = λ k p at none. (let there = in_old k p at in is.queued there.0 p there.1 (sym (same_distance p) ∙ none));
-  }
-
-  pub next_relaxed : AreRelaxed image old → AreRelaxedBut image place 0 new
-  next_relaxed relaxed p k a waits apart at =
-      let other : p ≡ place → ⊥ = λ same. absurd (let less = apart same in omega arith) in
-      subst (λ ds. IsRelaxed ds p a) (sym next.distances) (relaxed p k a (other_flag p false other waits) at)
-
-  pub next_work : work new + 1 ≡ work old
-  next_work =
-      let d = ap (sum_by (λ x. x)) next.distances in
-      let q = length_permutation (queue_of old) (place ∷ queue_of new) next.queue in
-      omega arith
-
--- a step behind an arrangement of the queue is one from before it
-pub next_arranged : (place : ℕ) (old mid new : PathSearch) → IsArranged old mid → IsNext place mid new → IsNext place old new
-next_arranged place old mid new arranged next = record {
-  root = next.root ∙ arranged.root;
-  distances = next.distances ∙ arranged.distances;
-  waiting = next.waiting ∙ ap (λ ws. set ws place false) arranged.waiting;
-  queue = IsPermutation-trans (queue_of old) (queue_of mid) (place ∷ queue_of new) arranged.queue next.queue;
-}
-
-nothing : (xs : List ℕ) → length xs ≡ 0 → xs ≡ []
-nothing [] none = refl
-nothing (x ∷ xs) none = absurd (omega arith)
-
-pub end_arranged : (old mid new : PathSearch) → IsArranged old mid → IsEnd mid new → IsEnd old new
-end_arranged old mid new arranged end = record {
-  none = nothing (queue_of old) (sym (length_permutation (queue_of old) (queue_of mid) arranged.queue) ∙ ap length end.none);
-  root = end.root ∙ arranged.root;
-  distances = end.distances ∙ arranged.distances;
-}
-
-pub arranged_none : (s : PathSearch) → IsArranged s s
-arranged_none s = record { root = refl; distances = refl; waiting = refl; queue = IsPermutation-refl (queue_of s) }
-
--- the places of each part are those of the queue
-pub near_within : (n : ℕ) (xs ys : List ℕ) → AreQueued n (xs ++ ys) → AreQueued n xs
-near_within n xs ys within k p at = within k p (get_front xs ys k p at)
-
-pub far_within : (n : ℕ) (xs ys : List ℕ) → AreQueued n (xs ++ ys) → AreQueued n ys
-far_within n [] ys within = within
-far_within n (x ∷ xs) ys within = far_within n xs ys (λ k p at. within (suc k) p at)
-
--- the last place is among them
-pub last_within : (n : ℕ) (xs : List ℕ) (x : ℕ) → AreQueued n (xs ++ x ∷ []) → x < n
-last_within n xs x within = within (length xs) x (get_last xs x)
-
--- the last of the near places to the front
-pub near_first : (xs ys : List ℕ) (x : ℕ) → IsPermutation ((xs ++ x ∷ []) ++ ys) (x ∷ (xs ++ ys))
-near_first xs ys x = subst (λ l. IsPermutation l (x ∷ (xs ++ ys))) (sym (append_assoc xs (x ∷ []) ys)) (IsPermutation-middle xs x ys)
-
--- the last of the far places to the front
-pub far_first : (xs ys : List ℕ) (x : ℕ) → IsPermutation (xs ++ (ys ++ x ∷ [])) (x ∷ (xs ++ ys))
-far_first xs ys x = subst (λ l. IsPermutation l (x ∷ (xs ++ ys))) (append_assoc xs ys (x ∷ [])) (IsPermutation-to_front (xs ++ ys) x)
-
--- a far place comes near
-pub brought_near : (xs ys rest : List ℕ) (x : ℕ) → IsPermutation ys (x ∷ rest) → IsPermutation (xs ++ ys) ((xs ++ x ∷ []) ++ rest)
-brought_near xs ys rest x moved =
-    subst (IsPermutation (xs ++ ys)) (sym (append_assoc xs (x ∷ []) rest)) (IsPermutation-append_right xs ys (x ∷ rest) moved)
-
--- the far place k comes near
-pub brought : (near near_later far far_later : List ℕ) (k place taken : ℕ) → k < length far → near_later ≡ near ++ place ∷ [] → place ≡ get_or far k place
-    → far_later ≡ swap_remove far k taken → taken ≡ get_or far k taken → IsPermutation (near ++ far) (near_later ++ far_later)
-brought near near_later far far_later k place taken within put place_is left taken_is =
-    let same : taken ≡ place = taken_is ∙ get_or_default far k taken place within ∙ sym place_is in
-    subst (λ l. IsPermutation (near ++ far) (l ++ far_later)) (sym put)
-    (subst (λ l. IsPermutation (near ++ far) ((near ++ place ∷ []) ++ l)) (sym left)
-    (brought_near near far (swap_remove far k taken) place (subst (λ x. IsPermutation far (x ∷ swap_remove far k taken)) same (IsPermutation-swap_remove far k taken within taken_is))))
-
--- ---- a lesser weight
-
-module _ (image : Places) (old new : PathSearch) (is : IsSearch image old) (p k : ℕ) (a : Arc) (p_within : p < length image.vertices) (p_reached : slice_index old.distances.items p ≡ UNREACHED → ⊥)
-    (at : slice_get (arcs_at image.out p) k ≡ Some a) (q_within : a.other < length image.vertices) (light : a.weight ≤ MAX_WEIGHT) where
-  -- the sum is a weight
-  pub sum_fits : slice_index old.distances.items p + a.weight < UNREACHED
-  sum_fits =
-      let b = is.bound p p_within p_reached in
-      let r = reached_few old.distances.items in
-      let c = is.count in
-      let f = is.few in
-      omega arith
-
-  sum_reached : slice_index old.distances.items p + a.weight ≡ UNREACHED → ⊥
-  sum_reached same = (let f = sum_fits in absurd (omega arith))
-
-  module _ (less : slice_index old.distances.items p + a.weight < slice_index old.distances.items a.other) (lowered : IsLowered a.other (slice_index old.distances.items p + a.weight) old new) where
-    q_in : a.other < length old.distances.items
-    q_in = let c = is.count in omega arith
-
-    here : slice_index new.distances.items a.other ≡ slice_index old.distances.items p + a.weight
-    here = ap (λ ds. slice_index ds a.other) lowered.distances ∙ get_or-set_same old.distances.items a.other (slice_index old.distances.items p + a.weight) 0 q_in
-
-    there : (r : ℕ) → (r ≡ a.other → ⊥) → slice_index new.distances.items r ≡ slice_index old.distances.items r
-    there r other = ap (λ ds. slice_index ds r) lowered.distances ∙ get_or-set_other old.distances.items a.other r (slice_index old.distances.items p + a.weight) 0 other
-
-    -- no weight is greater than before
-    no_greater : (r : ℕ) → slice_index new.distances.items r ≤ slice_index old.distances.items r
-    no_greater r = ⊎_elim
-        (λ same. let h = here in let n = ap (slice_index new.distances.items) same in let o = ap (slice_index old.distances.items) same in omega arith)
-        (λ other. let t = there r other in omega arith)
-        (cases_eq r a.other)
-
-    -- the place of the arc keeps its weight
-    pub p_keeps : slice_index new.distances.items p ≡ slice_index old.distances.items p
-    p_keeps = there p (λ same. (let o = ap (slice_index old.distances.items) same in absurd (omega arith)))
-
-    -- reached places stay reached
-    stays : (r : ℕ) → (slice_index old.distances.items r ≡ UNREACHED → ⊥) → slice_index new.distances.items r ≡ UNREACHED → ⊥
-    stays r was none = ⊎_elim
-        (λ same. sum_reached (sym here ∙ ap (slice_index new.distances.items) (sym same) ∙ none))
-        (λ other. was (sym (there r other) ∙ none))
-        (cases_eq r a.other)
-
-    -- the number of reached places allows the sum
-    count_after : (reached old.distances.items ≤ reached new.distances.items) × (slice_index old.distances.items p + a.weight + MAX_WEIGHT ≤ reached new.distances.items * MAX_WEIGHT)
-    count_after = ⊎_elim
-        (λ fresh. (let more = ap reached lowered.distances ∙ reached_more old.distances.items a.other (slice_index old.distances.items p + a.weight) q_in sum_reached fresh in
-        let b = is.bound p p_within p_reached in (omega arith, omega arith)))
-        (λ known. (let same = ap reached lowered.distances ∙ reached_same old.distances.items a.other (slice_index old.distances.items p + a.weight) q_in sum_reached known in
-        let b = is.bound a.other q_within known in (omega arith, omega arith)))
-        (cases_eq (slice_index old.distances.items a.other) UNREACHED)
-
-    flag_of : (r : ℕ) (b : Bool) → slice_get new.waiting.items r ≡ Some b → (r ≡ a.other → true ≡ b) × ((r ≡ a.other → ⊥) → slice_get old.waiting.items r ≡ Some b)
-    flag_of r b at_r =
-        let now = ap (λ ws. slice_get ws r) (sym lowered.waiting) ∙ at_r in (
-          λ same. get_set_here old.waiting.items a.other true b (subst (λ i. slice_get (set old.waiting.items a.other true) i ≡ Some b) same now),
-          λ other. get_set_else old.waiting.items a.other r true b other now,
-        )
-
-    -- what stood in the queue stands in it, and so does the place; nothing else does
-    still : (j r : ℕ) → slice_get (queue_of old) j ≡ Some r → (i : ℕ) × (slice_get (queue_of new) i ≡ Some r)
-    still j r at_j = ⊎_elim
-        (λ put. in_order (a.other ∷ queue_of old) (queue_of new) put (suc j) r at_j)
-        (λ stood. (j, ap (λ q. slice_get q j) stood.1 ∙ at_j))
-        lowered.queue
-
-    stands : (i : ℕ) × (slice_get (queue_of new) i ≡ Some a.other)
-    stands = ⊎_elim
-        (λ put. in_order (a.other ∷ queue_of old) (queue_of new) put 0 a.other refl)
-        (λ stood. let before = is.waits a.other stood.0 in (before.0, ap (λ q. slice_get q before.0) stood.1 ∙ before.1))
-        lowered.queue
-
-    first_or : (j r : ℕ) → slice_get (a.other ∷ queue_of old) j ≡ Some r → (r ≡ a.other) ⊎ ((i : ℕ) × (slice_get (queue_of old) i ≡ Some r))
-    first_or zero r at_j = inl (sym (same_Some a.other r at_j))
-    first_or (suc j) r at_j = inr (j, at_j)
-
-    only : (j r : ℕ) → slice_get (queue_of new) j ≡ Some r → (r ≡ a.other) ⊎ ((i : ℕ) × (slice_get (queue_of old) i ≡ Some r))
-    only j r at_j = ⊎_elim
-        (λ put. let there = in_order (queue_of new) (a.other ∷ queue_of old) (IsPermutation-sym (a.other ∷ queue_of old) (queue_of new) put) j r at_j in first_or there.0 r there.1)
-        (λ stood. inr (j, ap (λ q. slice_get q j) (sym stood.1) ∙ at_j))
-        lowered.queue
-
-    longer : length (queue_of new) ≤ length (queue_of old) + 1
-    longer = ⊎_elim
-        (λ put. let l = length_permutation (a.other ∷ queue_of old) (queue_of new) put in omega arith)
-        (λ stood. let l = ap length stood.1 in omega arith)
-        lowered.queue
-
-    pub lowered_search : IsSearch image new
-    lowered_search = record {
-      few = is.few;
-      count = ap length lowered.distances ∙ length-set old.distances.items a.other (slice_index old.distances.items p + a.weight) ∙ is.count;
-      flags = ap length lowered.waiting ∙ length-set old.waiting.items a.other true ∙ is.flags;
-      start = ap (slice_index new.distances.items) lowered.root ∙ (let low = no_greater old.root in let z = is.start in let same : slice_index new.distances.items old.root ≡ 0 = omega arith in same);
-      sound = λ r within reaches. subst (λ root. (j : ℕ) × HasPathBy (LinkOut image) root j r (slice_index new.distances.items r)) (sym lowered.root) (⊎_elim
-          (λ same.
-          let path = is.sound p p_within p_reached in
-          (suc path.0, (p, slice_index old.distances.items p, a.weight, path.1, (p_within, k, at ∙ ap Some (λ i. record { other = same' same i; weight = a.weight })), ap (slice_index new.distances.items) same ∙ here)))
-          (λ other.
-          let path = is.sound r within (λ none. reaches (there r other ∙ none)) in
-          (path.0, subst (λ d. HasPathBy (LinkOut image) old.root path.0 r d) (sym (there r other)) path.1))
-          (cases_eq r a.other));
-      bound = λ r within reaches. (let c = count_after in ⊎_elim
-          (λ same. (let h = ap (slice_index new.distances.items) same ∙ here in let more = c.1 in omega arith))
-          (λ other. (let b = is.bound r within (λ none. reaches (there r other ∙ none)) in let t = there r other in let more = c.0 in omega arith))
-          (cases_eq r a.other));
-      waits = λ r at_r. ⊎_elim
-          (λ same. (stands.0, stands.1 ∙ ap Some (sym same)))
-          (λ other. let before = is.waits r ((flag_of r true at_r).1 other) in still before.0 r before.1)
-          (cases_eq r a.other);
-      within = λ j r at_j. ⊎_elim (λ same. subst (λ i. i < length image.vertices) (sym same) q_within) (λ before. is.within before.0 r before.1) (only j r at_j);
-      queued = λ j r at_j. ⊎_elim
-          (λ same none. sum_reached (sym here ∙ ap (slice_index new.distances.items) (sym same) ∙ none))
-          (λ before. stays r (is.queued before.0 r before.1))
-          (only j r at_j);
+begun : (image : Places) (root width : ℕ) (later : Buckets) → length image.vertices < 2 ^ 32 → root < length image.vertices → 0 < width → HasNone later
+    → IsSearch image (record { root = root; width = width; bucket = 0; made = 0 }) (set (replicate (length image.vertices) UNREACHED) root 0) (record { place = root; distance = 0 } ∷ []) later
+begun image root width later few below wide none =
+    let n = length image.vertices in
+    let ds = set (replicate n UNREACHED) root 0 in
+    record {
+      weights = weights_start image root few below;
+      wide = wide;
+      made_few = omega arith;
+      settled = λ p within low. absurd (omega arith);
+      here = λ p within reaches bucket. ⊎_elim
+          (λ same. record {
+            at = 0;
+            is = ap Some (λ i. record { place = sym same i; distance = sym (ap (slice_index ds) same ∙ at_root n root below) i });
+            done = λ low. absurd (omega arith);
+          })
+          (λ other. absurd (reaches (at_other n root below p within other)))
+          (cases_eq p root);
+      there = λ p within reaches high. ⊎_elim
+          (λ same. absurd (let z = zero_bucket width (slice_index ds p) (ap (slice_index ds) same ∙ at_root n root below) in omega arith))
+          (λ other. absurd (reaches (at_other n root below p within other)))
+          (cases_eq p root);
+      above = λ x list at. absurd (none-some list (sym (none x) ∙ at));
+      visits_right = λ k v at. subst (IsVisit n width 0) (only_one (record { place = root; distance = 0 }) k v at) (record { place_is = below; bucket_is = zero_bucket width 0 refl; reached_is = zero_reached 0 refl });
+      later_right = λ x k v at. absurd (nothing_in later none x k v at);
     }
-      where
-        same' : {r : ℕ} → r ≡ a.other → a.other ≡ r
-        same' same = sym same
 
-    pub lowered_relaxed : AreRelaxedBut image p k old → AreRelaxedBut image p (k + 1) new
-    lowered_relaxed relaxed r j b waits apart at_j =
-        let not_q : r ≡ a.other → ⊥ = λ same. absurd (let yes = (flag_of r false waits).0 same in same_flag {b = true} refl yes) in
-        let before = (flag_of r false waits).1 not_q in
-        let d = there r not_q in
-        let kept : (r ≡ p → j < k) → IsRelaxed new.distances.items r b = λ earlier is_reached. (
-        let known = relaxed r j b before earlier at_j (λ none. is_reached (d ∙ none)) in
-        (stays b.other known.0, (let low = known.1 in let g = no_greater b.other in omega arith))) in
-        ⊎_elim
-        (λ same. ⊎_elim
-        (λ earlier. kept (λ _. earlier))
-        (λ now is_reached. (
-        let arc : a ≡ b = same_Some a b (sym at ∙ (λ i. slice_get (arcs_at image.out (same' same i)) (now' now i)) ∙ at_j) in
-        let h : slice_index new.distances.items b.other ≡ slice_index old.distances.items p + a.weight = ap (λ (c : Arc). slice_index new.distances.items c.other) (sym arc) ∙ here in
-        let w = ap (λ (c : Arc). c.weight) arc in
-        let o = ap (slice_index old.distances.items) same in
-        ((λ none. sum_reached (sym h ∙ none)), omega arith)))
-        (below_cases j k (apart same)))
-        (λ other. kept (λ same. absurd (other same)))
-        (cases_eq r p)
-      where
-        same' : {r : ℕ} → r ≡ p → p ≡ r
-        same' same = sym same
-
-        now' : {j : ℕ} → j ≡ k → k ≡ j
-        now' now = sym now
-
-    pub lowered_work : work new ≤ work old
-    lowered_work =
-        let d = ap (sum_by (λ x. x)) lowered.distances in
-        let s = sum_by-set (λ x. x) old.distances.items a.other (slice_index old.distances.items p + a.weight) 0 q_in in
-        let q = longer in
-        omega arith
-
-  -- where the sum isn't less, the arc is relaxed as it is
-  pub kept_relaxed : slice_index old.distances.items a.other ≤ slice_index old.distances.items p + a.weight → AreRelaxedBut image p k old → AreRelaxedBut image p (k + 1) old
-  kept_relaxed le relaxed r j b waits apart at_j = ⊎_elim
-      (λ same. ⊎_elim
-      (λ earlier. relaxed r j b waits (λ _. earlier) at_j)
-      (λ now is_reached. (
-      let arc : a ≡ b = same_Some a b (sym at ∙ (λ i. slice_get (arcs_at image.out (sym same i)) (sym now i)) ∙ at_j) in
-      let h = ap (λ (c : Arc). slice_index old.distances.items c.other) arc in
-      let w = ap (λ (c : Arc). c.weight) arc in
-      let o = ap (slice_index old.distances.items) same in
-      let f = sum_fits in
-      ((λ none. absurd (omega arith)), omega arith)))
-      (below_cases j k (apart same)))
-      (λ other. relaxed r j b waits (λ same. absurd (other same)) at_j)
-      (cases_eq r p)
-
--- ---- the arcs of a place so far
-
-pub record IsFollowing (image : Places) (place i from : ℕ) (old s : PathSearch) : Type 0 where
-  pub search : IsSearch image s
-  pub relaxed : AreRelaxedBut image place i s
-  pub here : slice_index s.distances.items place ≡ from
-  pub root_is : s.root ≡ old.root
-  pub less : work s ≤ work old
-
-module _ (image : Places) (place i from : ℕ) (old s : PathSearch) (so_far : IsFollowing image place i from old s) (within : place < length image.vertices) (from_reached : from ≡ UNREACHED → ⊥)
-    (a : Arc) (at : slice_get (arcs_at image.out place) i ≡ Some a) (a_within : a.other < length image.vertices) (light : a.weight ≤ MAX_WEIGHT) where
-  place_reached : slice_index s.distances.items place ≡ UNREACHED → ⊥
-  place_reached none = from_reached (sym so_far.here ∙ none)
-
-  -- after an arc that leads nowhere at a lesser weight
-  pub following_kept : slice_index s.distances.items a.other ≤ from + a.weight → IsFollowing image place (i + 1) from old s
-  following_kept le = record {
-    search = so_far.search;
-    relaxed = kept_relaxed image s s so_far.search place i a within place_reached at a_within light (subst (λ d. slice_index s.distances.items a.other ≤ d + a.weight) (sym so_far.here) le) so_far.relaxed;
-    here = so_far.here;
-    root_is = so_far.root_is;
-    less = so_far.less;
-  }
-
-  -- after one that does
-  pub following_lowered : (new : PathSearch) → from + a.weight < slice_index s.distances.items a.other → IsLowered a.other (from + a.weight) s new → IsFollowing image place (i + 1) from old new
-  following_lowered new less lowered =
-      let less_here = subst (λ d. d + a.weight < slice_index s.distances.items a.other) (sym so_far.here) less in
-      let lowered_here = subst (λ d. IsLowered a.other (d + a.weight) s new) (sym so_far.here) lowered in
-      record {
-        search = lowered_search image s new so_far.search place i a within place_reached at a_within light less_here lowered_here;
-        relaxed = lowered_relaxed image s new so_far.search place i a within place_reached at a_within light less_here lowered_here so_far.relaxed;
-        here = p_keeps image s new so_far.search place i a within place_reached at a_within light less_here lowered_here ∙ so_far.here;
-        root_is = lowered.root ∙ so_far.root_is;
-        less = (let w = lowered_work image s new so_far.search place i a within place_reached at a_within light less_here lowered_here in let l = so_far.less in omega arith);
-      }
-
--- all arcs
-pub followed : (image : Places) (place i : ℕ) (s : PathSearch) → length (arcs_at image.out place) ≤ i → AreRelaxedBut image place i s → AreRelaxed image s
-followed image place i s all relaxed p k a waits at = relaxed p k a waits (λ same. (let below = slice_get_within (arcs_at image.out place) k a (ap (λ q. slice_get (arcs_at image.out q) k) (sym same) ∙ at) in omega arith)) at
-
--- ---- the end
-
-module _ (image : Places) (s : PathSearch) (is : IsSearch image s) (relaxed : AreRelaxed image s) (none : queue_of s ≡ []) where
-  no_flag : (p : ℕ) → p < length image.vertices → slice_get s.waiting.items p ≡ Some false
-  no_flag p within =
-      let there = get_within s.waiting.items p (let f = is.flags in omega arith) in
-      ⊎_elim
-      (λ yes. absurd (let waits = is.waits p (there.1 ∙ ap Some yes) in none-some p (ap (λ q. slice_get q waits.0) (sym none) ∙ waits.1)))
-      (λ no. there.1 ∙ ap Some no)
-      (cases_Bool there.0)
-
-  all_found : (k p weight : ℕ) → HasPathBy (LinkOut image) s.root k p weight → (slice_index s.distances.items p ≡ UNREACHED → ⊥) × (slice_index s.distances.items p ≤ weight)
-  all_found zero p weight path =
-      let zero_is : slice_index s.distances.items p ≡ 0 = ap (slice_index s.distances.items) (sym path.0) ∙ is.start in
-      (zero_reached (slice_index s.distances.items p) zero_is, omega arith)
-  all_found (suc k) p weight path =
-      let link = path.4 in
-      let before = all_found k path.0 path.1 path.3 in
-      let known = relaxed path.0 link.1 (record { other = p; weight = path.2 }) (no_flag path.0 link.0) link.2 before.0 in
-      let low = before.1 in
-      let step = known.1 in
-      let total = path.5 in
-      (known.0, omega arith)
-
-  pub search_done : IsSearched (LinkOut image) s.root (length image.vertices) s.distances.items
-  search_done = record {
-    count = is.count;
-    sound = is.sound;
-    least = λ k p weight path. (all_found k p weight path).1;
-    found = λ k p weight path. (all_found k p weight path).0;
-  }
+pub started : (image : Places) (root width : ℕ) (s : BucketSearch) → length image.vertices < 2 ^ 32 → root < length image.vertices → 0 < width → IsStart (length image.vertices) root width s → IsSearchOf image s
+started image root width s few below wide start = subst (λ (t : BucketStage). IsSearch image t s.distances.items s.visits.items s.later) (sym start.stage_is)
+    (subst (λ ds. IsSearch image (record { root = root; width = width; bucket = 0; made = 0 }) ds s.visits.items s.later) (sym start.distances_are)
+    (subst (λ vs. IsSearch image (record { root = root; width = width; bucket = 0; made = 0 }) (set (replicate (length image.vertices) UNREACHED) root 0) vs s.later) (sym start.visits_are)
+    (begun image root width s.later few below wide start.later_none)))

@@ -4,7 +4,6 @@ use Rattle.std.specs.Prelude.{slice_index}
 use Rattle.std.proofs.lemmas.Bool.{cases_eq, eq-eqb, ne_eqb, false_from_ne_true}
 use Rattle.std.proofs.lemmas.Option.{slice_get_within, get_or_from_slice_get}
 use Rattle.graph_model.specs.declared.table.Entry.{Entry}
-use Rattle.graph_model.specs.declared.table.Value.{Value}
 use Rattle.graph_model.specs.declared.table.Value.TheVariants.{Number, Infinity}
 use Rattle.graph_model.specs.Graph.{Graph, has_vertex}
 use Rattle.graph_model.specs.Walks.{IsWalk, walk_weight}
@@ -16,8 +15,8 @@ use Rattle.graph_image.specs.Entries.{AreEntries}
 use Rattle.graph_image.proofs.Lists.{get_map}
 use Rattle.graph_image.proofs.ImageLemmas.{placed_vertex, vertex_placed}
 use Rattle.graph_image.proofs.PathLemmas.{path_reaches_by, reaches_path_by, table_right}
-use Rattle.kernel_sssp.specs.declared.search.TheConstants.{UNREACHED}
-use Rattle.kernel_sssp.specs.Search.{LinkOut, value_of, IsSearched}
+use Rattle.kernel_sssp.specs.declared.distances.TheConstants.{UNREACHED}
+use Rattle.kernel_sssp.specs.Distances.{LinkOut, value_of, IsSearched}
 
 -- a path along some links is one along others that these are
 path_along : (L M : ℕ → ℕ → ℕ → Type 0) → ((p q w : ℕ) → L p q w → M p q w) → (root k p weight : ℕ) → HasPathBy L root k p weight → HasPathBy M root k p weight

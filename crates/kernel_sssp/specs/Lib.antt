@@ -1,1 +1,3 @@
+pub mod Buckets
+pub mod Distances
 pub mod Search

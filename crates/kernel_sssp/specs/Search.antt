@@ -1,113 +1,199 @@
--- Weights of places, and what a search knows of them.
-use Rattle.std.specs.Prelude.{◌≡◌, ℕ, ◌+◌, ◌*◌, ◌<◌, ◌≤◌, ◌^◌, ◌==◌, ◌⊎◌, cond, true, false, not, List, [], ◌∷◌, ◌++◌, IsPermutation, length, sum_by, count_by, replicate, slice_index, slice_get, slice_set, Some}
+-- Distances, visits and buckets, and what a search keeps.
+use Rattle.std.specs.Prelude.{◌≡◌, ℕ, ◌+◌, ◌*◌, ◌/◌, ◌<◌, ◌≤◌, ◌^◌, ◌⊎◌, List, [], ◌∷◌, ◌++◌, length, sum_by, replicate, slice_index, slice_get, slice_set, Some, None}
+use Rattle.std.specs.Ordering.{nat_cmp}
+use Rattle.std.specs.BTreeMap.{get}
 use Rattle.graph_model.specs.declared.limits.TheConstants.{MAX_WEIGHT}
-use Rattle.graph_model.specs.declared.table.Value.{Value}
-use Rattle.graph_model.specs.declared.table.Value.TheVariants.{Number, Infinity}
 use Rattle.graph_image.specs.declared.edge.Arc.{Arc}
 use Rattle.graph_image.specs.Images.{Places, arcs_at}
 use Rattle.graph_image.specs.Paths.{HasPathBy}
-use Rattle.kernel_sssp.specs.declared.search.PathSearch.{PathSearch}
-use Rattle.kernel_sssp.specs.declared.search.TheConstants.{UNREACHED}
+use Rattle.kernel_sssp.specs.declared.distances.TheConstants.{UNREACHED}
+use Rattle.kernel_sssp.specs.Distances.{LinkOut, IsRelaxed, reached}
+use Rattle.kernel_sssp.specs.declared.buckets.Visit.{Visit}
+use Rattle.kernel_sssp.specs.declared.buckets.Buckets.{Buckets}
+use Rattle.kernel_sssp.specs.declared.search.BucketStage.{BucketStage}
+use Rattle.kernel_sssp.specs.declared.search.BucketSearch.{BucketSearch}
+use Rattle.kernel_sssp.specs.declared.lot.Lot.{Lot}
+use Rattle.kernel_sssp.specs.Buckets.{visits_in, Puts, TakesFirst}
 
--- a weight as the table has it
-abbrev pub value_of : ℕ → Value
-value_of distance = cond (distance == UNREACHED) Infinity (Number distance)
-
--- an arc of this weight out of p leads to q
-abbrev pub LinkOut : Places → ℕ → ℕ → ℕ → Type 0
-LinkOut image p q weight = (p < length image.vertices)
-    × (k : ℕ) × (slice_get (arcs_at image.out p) k ≡ Some (record { other = q; weight = weight }))
-
--- A reached place has the weight of a path from the root, and no path has less; no path leads to
--- another place.
-pub record IsSearched (Link : ℕ → ℕ → ℕ → Type 0) (root n : ℕ) (distances : List ℕ) : Type 0 where
-  pub count : length distances ≡ n
-  pub sound : (p : ℕ) → p < n → (slice_index distances p ≡ UNREACHED → ⊥)
-      → (k : ℕ) × HasPathBy Link root k p (slice_index distances p)
-  pub least : (k p weight : ℕ) → HasPathBy Link root k p weight → slice_index distances p ≤ weight
-  pub found : (k p weight : ℕ) → HasPathBy Link root k p weight → slice_index distances p ≡ UNREACHED → ⊥
-
--- ---- what a search keeps
-
--- how many places are reached
-abbrev pub reached : List ℕ → ℕ
-reached distances = count_by (λ d. not (d == UNREACHED)) distances
-
--- the places in the queue: the near ones, and then the far ones
-abbrev pub queue_of : PathSearch → List ℕ
-queue_of s = s.near.items ++ s.far.items
-
--- the places in the queue are among the first n
-abbrev pub AreQueued : ℕ → List ℕ → Type 0
-AreQueued n queue = (k p : ℕ) → slice_get queue k ≡ Some p → p < n
-
--- The weights are those of paths, and no greater than the number of reached places allows. What
--- waits is in the queue, and what is in the queue is reached.
-pub record IsSearch (image : Places) (s : PathSearch) : Type 0 where
+-- The distances are the weights of paths, and no greater than the number of reached places allows.
+pub record AreWeights (image : Places) (root : ℕ) (distances : List ℕ) : Type 0 where
   pub few : length image.vertices < 2 ^ 32
-  pub count : length s.distances.items ≡ length image.vertices
-  pub flags : length s.waiting.items ≡ length image.vertices
-  pub start : slice_index s.distances.items s.root ≡ 0
-  pub sound : (p : ℕ) → p < length image.vertices → (slice_index s.distances.items p ≡ UNREACHED → ⊥)
-      → (k : ℕ) × HasPathBy (LinkOut image) s.root k p (slice_index s.distances.items p)
-  pub bound : (p : ℕ) → p < length image.vertices → (slice_index s.distances.items p ≡ UNREACHED → ⊥)
-      → slice_index s.distances.items p + MAX_WEIGHT ≤ reached s.distances.items * MAX_WEIGHT
-  pub waits : (p : ℕ) → slice_get s.waiting.items p ≡ Some true → (k : ℕ) × (slice_get (queue_of s) k ≡ Some p)
-  pub within : AreQueued (length image.vertices) (queue_of s)
-  pub queued : (k p : ℕ) → slice_get (queue_of s) k ≡ Some p → slice_index s.distances.items p ≡ UNREACHED → ⊥
+  pub count : length distances ≡ length image.vertices
+  pub start : slice_index distances root ≡ 0
+  pub sound : (p : ℕ) → p < length image.vertices → (slice_index distances p ≡ UNREACHED → ⊥)
+      → (k : ℕ) × HasPathBy (LinkOut image) root k p (slice_index distances p)
+  pub bound : (p : ℕ) → p < length image.vertices → (slice_index distances p ≡ UNREACHED → ⊥)
+      → slice_index distances p + MAX_WEIGHT ≤ reached distances * MAX_WEIGHT
 
--- where p is reached, the arc out of it leads to a reached place, at no lesser weight than what is known
-abbrev pub IsRelaxed : List ℕ → ℕ → Arc → Type 0
-IsRelaxed distances p a = (slice_index distances p ≡ UNREACHED → ⊥) → (slice_index distances a.other ≡ UNREACHED → ⊥)
-    × (slice_index distances a.other ≤ slice_index distances p + a.weight)
+-- the arcs out of the place lead nowhere at a lesser distance than what is known
+abbrev pub AreRelaxed : Places → List ℕ → ℕ → Type 0
+AreRelaxed image distances p = (k : ℕ) (a : Arc) → slice_get (arcs_at image.out p) k ≡ Some a → IsRelaxed distances p a
 
--- so do the arcs out of the places that don't wait
-abbrev pub AreRelaxed : Places → PathSearch → Type 0
-AreRelaxed image s = (p k : ℕ) (a : Arc) → slice_get s.waiting.items p ≡ Some false
-    → slice_get (arcs_at image.out p) k ≡ Some a → IsRelaxed s.distances.items p a
+-- a visit of one of the first n places, at a distance that is of the bucket
+pub record IsVisit (n width bucket : ℕ) (visit : Visit) : Type 0 where
+  pub place_is : visit.place < n
+  pub bucket_is : visit.distance / width ≡ bucket
+  pub reached_is : visit.distance ≡ UNREACHED → ⊥
 
--- of the arcs out of one place the first i do
-abbrev pub AreRelaxedBut : Places → ℕ → ℕ → PathSearch → Type 0
-AreRelaxedBut image place i s = (p k : ℕ) (a : Arc) → slice_get s.waiting.items p ≡ Some false → (p ≡ place → k < i)
-    → slice_get (arcs_at image.out p) k ≡ Some a → IsRelaxed s.distances.items p a
+-- the place is among the visits, with its distance; its arcs are relaxed if that visit was made
+pub record IsVisited (image : Places) (stage : BucketStage) (distances : List ℕ) (visits : List Visit) (p : ℕ) : Type 0 where
+  pub at : ℕ
+  pub is : slice_get visits at ≡ Some (record { place = p; distance = slice_index distances p })
+  pub done : at < stage.made → AreRelaxed image distances p
 
--- what is left to do: it falls with each weight that is lowered, and with each place that is taken out of the queue
-abbrev pub work : PathSearch → ℕ
-work s = sum_by (λ d. d) s.distances.items + length (queue_of s)
+-- Settled up to the bucket: the arcs out of places of lower buckets are relaxed, the places of the bucket
+-- are among its visits, and those of higher ones in their buckets.
+pub record IsSearch (image : Places) (stage : BucketStage) (distances : List ℕ) (visits : List Visit) (later : Buckets)
+    : Type 0 where
+  pub weights : AreWeights image stage.root distances
+  pub wide : 0 < stage.width
+  pub made_few : stage.made ≤ length visits
+  pub settled : (p : ℕ) → p < length image.vertices → slice_index distances p / stage.width < stage.bucket
+      → AreRelaxed image distances p
+  pub here : (p : ℕ) → p < length image.vertices → (slice_index distances p ≡ UNREACHED → ⊥)
+      → slice_index distances p / stage.width ≡ stage.bucket → IsVisited image stage distances visits p
+  pub there : (p : ℕ) → p < length image.vertices → (slice_index distances p ≡ UNREACHED → ⊥)
+      → stage.bucket < slice_index distances p / stage.width → (k : ℕ)
+      × (slice_get (visits_in later (slice_index distances p / stage.width)) k
+      ≡ Some (record { place = p; distance = slice_index distances p }))
+  pub above : (x : ℕ) (list : List Visit) → get nat_cmp later.lists x ≡ Some list → stage.bucket < x
+  pub visits_right : (k : ℕ) (v : Visit) → slice_get visits k ≡ Some v
+      → IsVisit (length image.vertices) stage.width stage.bucket v
+  pub later_right : (x k : ℕ) (v : Visit) → slice_get (visits_in later x) k ≡ Some v
+      → IsVisit (length image.vertices) stage.width x v
+
+abbrev pub IsSearchOf : Places → BucketSearch → Type 0
+IsSearchOf image s = IsSearch image s.stage s.distances.items s.visits.items s.later
+
+-- it rises with no arc that is followed: a lesser distance takes away what the visit that it brings adds
+abbrev pub spread : BucketSearch → ℕ
+spread s = sum_by (λ d. d) s.distances.items + length s.visits.items
 
 -- ---- steps
 
--- just the root is reached, and waits
-pub record IsStart (n root : ℕ) (s : PathSearch) : Type 0 where
-  pub root_is : s.root ≡ root
-  pub distances : s.distances.items ≡ slice_set (replicate n UNREACHED) root 0
-  pub waiting : s.waiting.items ≡ slice_set (replicate n false) root true
-  pub queue : queue_of s ≡ root ∷ []
+-- just the root is reached, and is to be visited
+pub record IsStart (n root width : ℕ) (s : BucketSearch) : Type 0 where
+  pub stage_is : s.stage ≡ record { root = root; width = width; bucket = 0; made = 0 }
+  pub distances_are : s.distances.items ≡ slice_set (replicate n UNREACHED) root 0
+  pub visits_are : s.visits.items ≡ record { place = root; distance = 0 } ∷ []
+  pub later_none : (x : ℕ) → get nat_cmp s.later.lists x ≡ None
 
--- the queue has the same places, in another order
-pub record IsArranged (old new : PathSearch) : Type 0 where
-  pub root : new.root ≡ old.root
-  pub distances : new.distances.items ≡ old.distances.items
-  pub waiting : new.waiting.items ≡ old.waiting.items
-  pub queue : IsPermutation (queue_of old) (queue_of new)
+-- the visit stands behind the others of its bucket
+abbrev pub IsPut : ℕ → ℕ → Visit → List Visit → Buckets → List Visit → Buckets → Type 0
+IsPut bucket hand visit visits later visits_new later_new =
+    ((bucket ≡ hand) × (visits_new ≡ visits ++ visit ∷ []) × (later_new ≡ later))
+    ⊎ ((bucket ≡ hand → ⊥) × (visits_new ≡ visits) × Puts bucket visit later later_new)
 
--- the place stood in the queue, and is out of it and doesn't wait any more
-pub record IsNext (place : ℕ) (old new : PathSearch) : Type 0 where
-  pub root : new.root ≡ old.root
-  pub distances : new.distances.items ≡ old.distances.items
-  pub waiting : new.waiting.items ≡ slice_set old.waiting.items place false
-  pub queue : IsPermutation (queue_of old) (place ∷ queue_of new)
+-- the place has this distance, and is to be visited
+pub record IsLowered (place distance : ℕ) (old new : BucketSearch) : Type 0 where
+  pub stage_is : new.stage ≡ old.stage
+  pub distances_are : new.distances.items ≡ slice_set old.distances.items place distance
+  pub put : IsPut (distance / old.stage.width) old.stage.bucket (record { place = place; distance = distance })
+      old.visits.items old.later new.visits.items new.later
 
--- no place stood in the queue
-pub record IsEnd (old new : PathSearch) : Type 0 where
-  pub none : queue_of old ≡ []
-  pub root : new.root ≡ old.root
-  pub distances : new.distances.items ≡ old.distances.items
+-- the arcs are followed where the visit counts; visits come behind those that were there
+pub record Follows (image : Places) (visit : Visit) (old new : BucketSearch) : Type 0 where
+  pub search : IsSearchOf image new
+  pub stage_is : new.stage ≡ old.stage
+  pub relaxed : slice_index new.distances.items visit.place ≡ visit.distance
+      → AreRelaxed image new.distances.items visit.place
+  pub low : (p : ℕ) → slice_index new.distances.items p ≤ slice_index old.distances.items p
+  pub visits_stay : (k : ℕ) (v : Visit) → slice_get old.visits.items k ≡ Some v → slice_get new.visits.items k ≡ Some v
+  pub no_more : spread new ≤ spread old
 
--- the place has this weight, and waits: it is put into the queue, or waited before
-pub record IsLowered (place distance : ℕ) (old new : PathSearch) : Type 0 where
-  pub root : new.root ≡ old.root
-  pub distances : new.distances.items ≡ slice_set old.distances.items place distance
-  pub waiting : new.waiting.items ≡ slice_set old.waiting.items place true
-  pub queue : (IsPermutation (place ∷ queue_of old) (queue_of new))
-      ⊎ ((slice_get old.waiting.items place ≡ Some true) × (queue_of new ≡ queue_of old))
+-- one visit more is made
+pub record Steps (image : Places) (old new : BucketSearch) : Type 0 where
+  pub search : IsSearchOf image new
+  pub root_is : new.stage.root ≡ old.stage.root
+  pub bucket_is : new.stage.bucket ≡ old.stage.bucket
+  pub made_is : new.stage.made ≡ old.stage.made + 1
+  pub low : (p : ℕ) → slice_index new.distances.items p ≤ slice_index old.distances.items p
+  pub visits_stay : (k : ℕ) (v : Visit) → slice_get old.visits.items k ≡ Some v → slice_get new.visits.items k ≡ Some v
+  pub nearer : spread new + old.stage.made < spread old + new.stage.made
+
+-- some visits more are made, or none
+pub record Makes (image : Places) (old new : BucketSearch) : Type 0 where
+  pub search : IsSearchOf image new
+  pub root_is : new.stage.root ≡ old.stage.root
+  pub bucket_is : new.stage.bucket ≡ old.stage.bucket
+  pub low : (p : ℕ) → slice_index new.distances.items p ≤ slice_index old.distances.items p
+  pub visits_stay : (k : ℕ) (v : Visit) → slice_get old.visits.items k ≡ Some v → slice_get new.visits.items k ≡ Some v
+  pub no_farther : spread new + old.stage.made ≤ spread old + new.stage.made
+
+-- and one at least is left
+pub record Leaps (image : Places) (old new : BucketSearch) : Type 0 where
+  pub makes : Makes image old new
+  pub left : new.stage.made < length new.visits.items
+
+-- all visits of the bucket are made
+pub record Settles (image : Places) (old new : BucketSearch) : Type 0 where
+  pub search : IsSearchOf image new
+  pub root_is : new.stage.root ≡ old.stage.root
+  pub bucket_is : new.stage.bucket ≡ old.stage.bucket
+  pub all : length new.visits.items ≤ new.stage.made
+
+-- the first of the later buckets is at hand, and none of its visits is made
+pub record Advances (old new : BucketSearch) : Type 0 where
+  pub stage_is : new.stage ≡ record old.stage { bucket = new.stage.bucket; made = 0 }
+  pub bucket_small : new.stage.bucket < 2 ^ 64
+  pub distances_are : new.distances.items ≡ old.distances.items
+  pub takes : TakesFirst new.stage.bucket new.visits.items old.later new.later
+
+-- ---- arcs that several threads have looked at
+
+-- the arc is one of those that stand from the one number on and before the other
+abbrev pub IsAmong : List Arc → ℕ → ℕ → Arc → Type 0
+IsAmong arcs from until a = (j : ℕ) × (from ≤ j) × (j < until) × (slice_get arcs j ≡ Some a)
+
+-- the arc leads nowhere at a lesser distance
+pub record IsLong (n : ℕ) (distances : List ℕ) (visit : Visit) (a : Arc) : Type 0 where
+  pub within : a.other < n
+  pub light : a.weight ≤ MAX_WEIGHT
+  pub no_less : slice_index distances a.other ≤ visit.distance + a.weight
+
+-- those that stand there are arcs of the visit's place, and the other ones are long
+pub record HasShort (image : Places) (distances : List ℕ) (visit : Visit) (arcs : List Arc) (from until : ℕ) : Type 0 where
+  pub only : (a : Arc) → IsAmong arcs from until a
+      → (a.other < length image.vertices) × ((k : ℕ) × (slice_get (arcs_at image.out visit.place) k ≡ Some a))
+  pub all : (k : ℕ) (a : Arc) → slice_get (arcs_at image.out visit.place) k ≡ Some a
+      → IsAmong arcs from until a ⊎ IsLong (length image.vertices) distances visit a
+
+-- or the visit doesn't count any more
+abbrev pub AreShort : Places → List ℕ → Visit → List Arc → ℕ → ℕ → Type 0
+AreShort image distances visit arcs from until =
+    (slice_index distances visit.place < visit.distance) ⊎ HasShort image distances visit arcs from until
+
+-- of the first n arcs those that aren't long came behind the others
+pub record Picks (places n from : ℕ) (distances : List ℕ) (arcs old new : List Arc) : Type 0 where
+  pub stay : (j : ℕ) (a : Arc) → slice_get old j ≡ Some a → slice_get new j ≡ Some a
+  pub more : length old ≤ length new
+  pub only : (a : Arc) → IsAmong new (length old) (length new) a → (k : ℕ) × (slice_get arcs k ≡ Some a)
+  pub all : (k : ℕ) (a : Arc) → k < n → slice_get arcs k ≡ Some a → IsAmong new (length old) (length new) a
+      ⊎ ((a.other < places) × (a.weight ≤ MAX_WEIGHT) × (slice_index distances a.other ≤ from + a.weight))
+
+-- the short arcs of the visit came behind the others
+pub record Adds (image : Places) (distances : List ℕ) (visit : Visit) (old new : List Arc) : Type 0 where
+  pub stay : (j : ℕ) (a : Arc) → slice_get old j ≡ Some a → slice_get new j ≡ Some a
+  pub more : length old ≤ length new
+  pub short : AreShort image distances visit new (length old) (length new)
+
+-- the lot has one visit more
+pub record Looks (image : Places) (distances : List ℕ) (visit : Visit) (old new : Lot) : Type 0 where
+  pub adds : Adds image distances visit old.arcs.items new.arcs.items
+  pub starts_are : new.starts.items ≡ old.starts.items ++ length new.arcs.items ∷ []
+  pub first_is : new.first ≡ old.first
+
+-- the lot has the short arcs of its visits, which follow each other; at least one visit comes behind them
+pub record IsLot (image : Places) (distances : List ℕ) (visits : List Visit) (lot : Lot) : Type 0 where
+  pub within : lot.first + length lot.starts.items ≤ length visits
+  pub ends : (j : ℕ) → j < length lot.starts.items → slice_index lot.starts.items j ≤ length lot.arcs.items
+  pub each : (j : ℕ) (v : Visit) → j + 1 < length lot.starts.items → slice_get visits (lot.first + j) ≡ Some v
+      → AreShort image distances v lot.arcs.items (slice_index lot.starts.items j) (slice_index lot.starts.items (j + 1))
+
+-- so has each of these
+abbrev pub AreLots : Places → List ℕ → List Visit → List Lot → Type 0
+AreLots image distances visits lots = (i : ℕ) (lot : Lot) → slice_get lots i ≡ Some lot → IsLot image distances visits lot
+
+-- the places of the visits are among the first n
+abbrev pub ArePlaced : ℕ → List Visit → Type 0
+ArePlaced n visits = (k : ℕ) (v : Visit) → slice_get visits k ≡ Some v → v.place < n

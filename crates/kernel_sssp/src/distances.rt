@@ -6,11 +6,13 @@
 
 ghost use Rattle.std.specs.Prelude.{◌≡◌, length, map, IfOk};
 ghost use Rattle.graph_image.specs.Entries.{AreEntries};
-ghost use Rattle.kernel_sssp.specs.Search.{value_of};
+ghost use Rattle.kernel_sssp.specs.Distances.{value_of};
 
-use crate::search::UNREACHED;
 use graph_image::{Entry, Image, NoMemory, Table, Value};
 use std::alloc::Global;
+
+/// Stands for the weight of a place that isn't reached: no least weight is so great.
+pub const UNREACHED: u64 = 18446744073709551615;
 
 /// A line for each vertex, with the value that stands for the least weight of its place.
 pub fn table_by(alloc: Global, image: &Image, distances: &[u64]) -> Result<Table, NoMemory>

@@ -1,15 +1,21 @@
-//! Least weights of walks from a root, over the image of a graph (LDBC Graphalytics, SSSP).
+//! Least weights of walks from a root over the image of a graph (LDBC Graphalytics, SSSP), by delta-stepping (Meyer and
+//! Sanders, 2003).
 //!
-//! 1. A place with a weight has a path of this weight from the root.
-//! 2. The arcs out of each place that doesn't wait lead nowhere at a lesser weight than what is known.
-//! 3. Each place that waits stands in the queue, which has two parts: near places are followed first, so
-//!    that few places are followed twice. In which part a place stands changes no weight.
+//! 1. Reached places stand in buckets by their distance, each as wide as suits the graph, or as the caller says; only
+//!    buckets in use are kept, in an ordered map.
+//! 2. One bucket at a time is settled: the arcs out of each place of it are followed, which may put places
+//!    into it again.
+//! 3. Where a bucket has many visits, several threads look first which of their arcs are worth following; the visits are
+//!    made on one thread. Meyer and Sanders follow them on all, which needs distances that threads share.
+//! 4. The arcs out of each place below the bucket at hand lead nowhere at a lesser distance than what is known.
 #![tactic(auto)]
 
+mod ahead;
+mod buckets;
 mod distances;
 mod kernel;
+mod lot;
 mod search;
+mod width;
 
-pub use distances::table_by;
-pub use kernel::run;
-pub use search::UNREACHED;
+pub use kernel::{run, run_by_width};

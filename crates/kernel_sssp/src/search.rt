@@ -1,134 +1,285 @@
-//! The search, by a queue of places whose arcs are to be followed.
+//! The search, bucket by bucket.
 //!
-//! 1. Places near the root come before far ones, so most arcs are followed once. Which one comes first matters for time
-//!    alone: what is proved is that nothing waits at the end.
-//! 2. A place that waits stands in the queue once, however often its weight falls meanwhile.
+//! 1. All distances below the bucket at hand are final: arcs have no weight below 0, so whatever is still to come is no
+//!    nearer.
+//! 2. A visit may put others into the bucket at hand, so a bucket is at its end when its list is, and not after one
+//!    round.
+//! 3. What a visit reads of memory is read ahead for those that come next, which changes nothing.
 
-ghost use Rattle.std.specs.Prelude.{◌≡◌, ◌<◌, ◌≤◌, ◌^◌, length, slice_index, IfSome, IfNone, IfOk, OnOk};
+ghost use Rattle.std.specs.Prelude.{◌≡◌, ◌<◌, ◌≤◌, ◌^◌, false, length, slice_get, Some, IsTrue, IfOk, OnOk};
+ghost use Rattle.kernel_sssp.specs.Search.{IsSearchOf, IsVisit, IsStart, IsLowered};
+ghost use Rattle.kernel_sssp.specs.Search.{Follows, Steps, Makes, Leaps, Settles, Advances, spread};
+ghost use Rattle.kernel_sssp.specs.Search.{HasShort, AreShort, IsLot};
+ghost use Rattle.kernel_sssp.specs.Buckets.{HasNone};
 
+use crate::ahead::{AHEAD, Ahead, FEW, sum_ahead, sum_along};
+use crate::buckets::{Buckets, Visit};
+use crate::distances::UNREACHED;
+use crate::lot::{Lot, fill_each};
 use graph_image::{Arc, Image, NoMemory};
 use std::alloc::Global;
+use std::thread::Threads;
 
-/// Stands for the weight of a place that isn't reached: no least weight is so great.
-pub const UNREACHED: u64 = 18446744073709551615;
+/// Fewer visits aren't worth a thread.
+const MANY: usize = 1024;
+
+/// How far the search has come.
+#[derive(Clone, Copy)]
+pub struct BucketStage {
+    /// The place of the root.
+    pub root: usize,
+    /// How wide a bucket is.
+    pub width: u32,
+    /// The number of the bucket at hand.
+    pub bucket: u64,
+    /// How many of its visits are made.
+    pub made: usize,
+}
 
 /// What is known of the weights.
 #[derive(Drop)]
-pub struct PathSearch {
-    /// The place of the root.
-    pub root: usize,
+pub struct BucketSearch {
+    /// How far it has come.
+    pub stage: BucketStage,
     /// The least weight of a path to each place, of the paths that were found.
     pub distances: Vec<u64>,
-    /// Whether a place waits to have its arcs followed.
-    pub waiting: Vec<bool>,
-    /// Places that wait, with weights below the limit.
-    pub near: Vec<u32>,
-    /// The other places that wait.
-    pub far: Vec<u32>,
-    /// Below which a place that begins to wait is near.
-    pub limit: u64,
-    /// By how much the limit rises above the least weight of a place that waits.
-    pub step: u64,
+    /// The visits of the bucket at hand.
+    pub visits: Vec<Visit>,
+    /// The buckets after it.
+    pub later: Buckets,
+    /// For which visits of the bucket at hand it was read ahead.
+    pub ahead: Ahead,
 }
 
-impl PathSearch {
-    ghost use Rattle.kernel_sssp.specs.Search.{IsSearch, AreRelaxed, AreRelaxedBut, IsStart, IsNext, IsEnd, IsLowered, IsArranged, work, queue_of, AreQueued};
-    ghost use Rattle.kernel_sssp.specs.declared.search.TheConstants.{UNREACHED};
-
-    /// Just the root is reached, and waits.
-    pub fn new(alloc: Global, count: usize, root: usize, step: u64) -> Result<PathSearch, NoMemory>
+impl BucketSearch {
+    /// Just the root is reached, and is to be visited.
+    pub fn new(
+        alloc: Global,
+        count: usize,
+        root: usize,
+        width: u32,
+    ) -> Result<BucketSearch, NoMemory>
         requires root { root < count }
         requires few { count < 2 ^ 32 }
-        ensures { IfOk result (IsStart count root) }
+        ensures { IfOk result (IsStart count root width) }
     {
         let mut distances = vec![in alloc; UNREACHED; count]?;
-        let mut waiting = vec![in alloc; false; count]?;
-        let mut near = Vec::new(alloc);
+        let mut visits = Vec::new(alloc);
         distances[root] = 0;
-        waiting[root] = true;
-        near.push(root as u32)?;
-        Ok(PathSearch {
+        visits.push(Visit {
+            place: root as u32,
+            distance: 0,
+        })?;
+        let stage = BucketStage {
             root,
+            width,
+            bucket: 0,
+            made: 0,
+        };
+        Ok(BucketSearch {
+            stage,
             distances,
-            waiting,
-            near,
-            far: Vec::new(alloc),
-            limit: step,
-            step,
+            visits,
+            later: Buckets::new(alloc),
+            ahead: Ahead { until: 0, sum: 0 },
         })
     }
 
-    /// Takes a place out of the queue.
-    pub fn next(&mut self) -> Result<Option<u32>, NoMemory>
-        requires flags { length self.old.waiting.items ≡ length self.old.distances.items }
-        requires queue { AreQueued (length self.old.distances.items) (queue_of self.old) }
-        ensures some { IfOk result (λ taken. IfSome taken (λ place. IsNext place self.old self.new)) }
-        ensures none { IfOk result (λ taken. IfNone taken (IsEnd self.old self.new)) }
+    /// Settles the bucket: all arcs out of its places are followed.
+    pub fn settle<R: Threads + Sync>(
+        &mut self,
+        rt: &R,
+        image: &Image,
+        lots: &mut [Lot],
+    ) -> Result<(), NoMemory>
+        requires { IsSearchOf image.now self.old }
+        ensures { OnOk result (Settles image.now self.old self.new) }
     {
-        if self.near.is_empty() {
-            self.bring_near()?;
-        }
-        Ok(self.take())
-    }
-
-    /// Lets the limit rise, and brings the places near whose weights are below it.
-    fn bring_near(&mut self) -> Result<(), NoMemory>
-        requires { AreQueued (length self.old.distances.items) (queue_of self.old) }
-        ensures { OnOk result (IsArranged self.old self.new) }
-    {
-        let mut least = UNREACHED;
-        'places: for k in 0..self.far.len() {
-            least = least.min(self.distances[self.far[k] as usize]);
-        }
-        // Above the least weight of those that wait, so at least one place comes near.
-        self.limit = least.saturating_add(self.step);
-        let mut k = 0;
-        'far: while k < self.far.len() {
-            let place = self.far[k];
-            if self.distances[place as usize] < self.limit {
-                self.near.push(place)?;
-                self.far.swap_remove(k);
-            } else {
-                k += 1;
-            }
+        'visits: while self.stage.made < self.visits.len() {
+            self.leap(rt, image, lots)?;
+            self.read_ahead(image);
+            self.step(image)?;
         }
         Ok(())
     }
 
-    /// Takes a near place out of the queue, or else a far one.
-    fn take(&mut self) -> Option<u32>
-        requires { AreQueued (length self.old.waiting.items) (queue_of self.old) }
-        ensures some { IfSome result (λ place. IsNext place self.old self.new) }
-        ensures none { IfNone result (IsEnd self.old self.new) }
+    /// Where many visits are left, lets several threads look at all but the last, and makes these.
+    fn leap<R: Threads + Sync>(
+        &mut self,
+        rt: &R,
+        image: &Image,
+        lots: &mut [Lot],
+    ) -> Result<(), NoMemory>
+        requires search { IsSearchOf image.now self.old }
+        requires left { self.old.stage.made < length self.old.visits.items }
+        ensures { OnOk result (Leaps image.now self.old self.new) }
     {
-        if let Some(place) = self.near.pop() {
-            self.waiting[place as usize] = false;
-            return Some(place);
+        if lots.is_empty() || self.visits.len() - self.stage.made < MANY {
+            return Ok(());
         }
-        if let Some(place) = self.far.pop() {
-            self.waiting[place as usize] = false;
-            return Some(place);
+        fill_each(
+            rt,
+            image,
+            self.distances.as_slice(),
+            self.visits.as_slice(),
+            self.stage.made,
+            lots,
+        );
+        'lots: for i in 0..lots.len() {
+            self.make(image, &lots[i])?;
         }
-        None
+        Ok(())
     }
 
-    /// Follows the arcs out of a place.
-    pub fn follow(&mut self, image: &Image, place: usize) -> Result<(), NoMemory>
-        requires search { IsSearch image.now self.old }
-        requires place { place < length image.now.vertices }
-        requires relaxed { AreRelaxedBut image.now place 0 self.old }
-        requires reached { slice_index self.old.distances.items place ≡ UNREACHED → ⊥ }
-        ensures search { OnOk result (IsSearch image.now self.new) }
-        ensures relaxed { OnOk result (AreRelaxed image.now self.new) }
-        ensures root { OnOk result (self.new.root ≡ self.old.root) }
-        ensures work { OnOk result (work self.new ≤ work self.old) }
+    /// Makes the visits of a lot, if they come next.
+    fn make(&mut self, image: &Image, lot: &Lot) -> Result<(), NoMemory>
+        requires search { IsSearchOf image.now self.old }
+        requires left { self.old.stage.made < length self.old.visits.items }
+        requires lot { IsLot image.now self.old.distances.items self.old.visits.items lot.now }
+        ensures { OnOk result (Leaps image.now self.old self.new) }
     {
-        let arcs = image.out(place);
-        let from = self.distances[place];
-        'arcs: for i in 0..arcs.len() {
+        // They don't where the lot before had no memory.
+        if lot.first != self.stage.made {
+            return Ok(());
+        }
+        let arcs = lot.arcs.as_slice();
+        // Threads have these distances in their caches, and this one needs them in its own.
+        let sum = sum_along(self.distances.as_slice(), arcs);
+        self.ahead.sum = self.ahead.sum.wrapping_add(sum);
+        'visits: for j in 1..lot.starts.len() {
+            self.make_next(image, arcs, lot.starts[j - 1], lot.starts[j])?;
+        }
+        Ok(())
+    }
+
+    /// Makes the next visit along these short arcs of it.
+    fn make_next(
+        &mut self,
+        image: &Image,
+        arcs: &[Arc],
+        from: usize,
+        until: usize,
+    ) -> Result<(), NoMemory>
+        requires search { IsSearchOf image.now self.old }
+        requires left { self.old.stage.made < length self.old.visits.items }
+        requires arcs { until ≤ length arcs.now }
+        requires short { (v : Visit) → slice_get self.old.visits.items self.old.stage.made ≡ Some v
+            → AreShort image.now self.old.distances.items v arcs.now from until }
+        ensures { OnOk result (Steps image.now self.old self.new) }
+    {
+        let visit = self.visits[self.stage.made];
+        self.visit_short(image, visit, arcs, from, until)?;
+        self.stage.made += 1;
+        Ok(())
+    }
+
+    /// Follows the short arcs of a visit, if it still counts.
+    fn visit_short(
+        &mut self,
+        image: &Image,
+        visit: Visit,
+        arcs: &[Arc],
+        from: usize,
+        until: usize,
+    ) -> Result<(), NoMemory>
+        requires search { IsSearchOf image.now self.old }
+        requires visit { IsVisit (length image.now.vertices) self.old.stage.width self.old.stage.bucket visit }
+        requires arcs { until ≤ length arcs.now }
+        requires short { AreShort image.now self.old.distances.items visit arcs.now from until }
+        ensures { OnOk result (Follows image.now visit self.old self.new) }
+    {
+        // Without an arc its place needn't be looked at.
+        if from >= until {
+            return Ok(());
+        }
+        if self.distances[visit.place as usize] == visit.distance {
+            self.follow(image, visit, arcs, from, until)?;
+        }
+        Ok(())
+    }
+
+    /// Makes the next bucket in use the one at hand, and says whether there is one.
+    pub fn advance(&mut self) -> bool
+        ensures more { IsTrue result → Advances self.old self.new }
+        ensures none { result ≡ false → HasNone self.old.later × (self.new.distances.items ≡ self.old.distances.items) }
+    {
+        let Some((bucket, visits)) = self.later.take_first() else {
+            return false;
+        };
+        self.stage = BucketStage {
+            bucket,
+            made: 0,
+            ..self.stage
+        };
+        self.visits = visits;
+        // What was read ahead was of the bucket before.
+        self.ahead.until = 0;
+        true
+    }
+
+    /// Reads ahead for the next visits, unless that was done.
+    fn read_ahead(&mut self, image: &Image)
+        ensures { self.new ≡ record self.old { ahead = self.new.ahead } }
+    {
+        let made = self.stage.made;
+        // Some visits at a time: to read ahead for one would be no gain.
+        if made < self.ahead.until {
+            return;
+        }
+        let end = self.visits.len().min(made.saturating_add(AHEAD));
+        self.ahead.until = end;
+        if end.saturating_sub(made) >= FEW {
+            let next = self.visits.as_slice().get(made..end).unwrap_or(&[]);
+            let sum = sum_ahead(image, self.distances.as_slice(), next);
+            self.ahead.sum = self.ahead.sum.wrapping_add(sum);
+        }
+    }
+
+    /// Makes the next visit.
+    fn step(&mut self, image: &Image) -> Result<(), NoMemory>
+        requires search { IsSearchOf image.now self.old }
+        requires left { self.old.stage.made < length self.old.visits.items }
+        ensures { OnOk result (Steps image.now self.old self.new) }
+    {
+        let visit = self.visits[self.stage.made];
+        self.visit(image, visit)?;
+        self.stage.made += 1;
+        Ok(())
+    }
+
+    /// Follows the arcs of a visit, if it still counts.
+    fn visit(&mut self, image: &Image, visit: Visit) -> Result<(), NoMemory>
+        requires search { IsSearchOf image.now self.old }
+        requires visit { IsVisit (length image.now.vertices) self.old.stage.width self.old.stage.bucket visit }
+        ensures { OnOk result (Follows image.now visit self.old self.new) }
+    {
+        if self.distances[visit.place as usize] == visit.distance {
+            let arcs = image.out(visit.place as usize);
+            self.follow(image, visit, arcs, 0, arcs.len())?;
+        }
+        Ok(())
+    }
+
+    /// Follows arcs out of a place, those from one number on and before another. The other ones lead nowhere at a
+    /// lesser distance.
+    fn follow(
+        &mut self,
+        _image: &Image,
+        visit: Visit,
+        arcs: &[Arc],
+        from: usize,
+        until: usize,
+    ) -> Result<(), NoMemory>
+        requires search { IsSearchOf _image.now self.old }
+        requires visit { IsVisit (length _image.now.vertices) self.old.stage.width self.old.stage.bucket visit }
+        requires here { slice_get self.old.distances.items visit.place ≡ Some visit.distance }
+        requires arcs { until ≤ length arcs.now }
+        requires short { HasShort _image.now self.old.distances.items visit arcs.now from until }
+        ensures { OnOk result (Follows _image.now visit self.old self.new) }
+    {
+        'arcs: for i in from..until {
             let Arc { other, weight } = arcs[i];
-            let distance = from + weight as u64;
-            // Only a lesser weight lets a place wait anew; so the search ends, since weights can't fall for ever.
+            let distance = visit.distance + weight as u64;
             if distance < self.distances[other as usize] {
                 self.lower(other, distance)?;
             }
@@ -136,21 +287,20 @@ impl PathSearch {
         Ok(())
     }
 
-    /// Gives a place a lesser weight, and lets it wait.
+    /// Gives a place a lesser distance, and puts it into its bucket.
     fn lower(&mut self, place: u32, distance: u64) -> Result<(), NoMemory>
         requires place { place < length self.old.distances.items }
-        requires flags { length self.old.waiting.items ≡ length self.old.distances.items }
+        requires wide { 0 < self.old.stage.width }
         ensures { OnOk result (IsLowered place distance self.old self.new) }
     {
         self.distances[place as usize] = distance;
-        // It stands in the queue once: its weight is looked up when its turn comes.
-        if !self.waiting[place as usize] {
-            self.waiting[place as usize] = true;
-            if distance < self.limit {
-                self.near.push(place)?;
-            } else {
-                self.far.push(place)?;
-            }
+        let visit = Visit { place, distance };
+        let bucket = distance / self.stage.width as u64;
+        // An arc that is short leads into the bucket at hand. None leads to an earlier one: weights are at least 0.
+        if bucket == self.stage.bucket {
+            self.visits.push(visit)?;
+        } else {
+            self.later.put(bucket, visit)?;
         }
         Ok(())
     }

@@ -20,9 +20,8 @@ const SMALL: usize = 16384;
 /// More threads than these share the places no better.
 const MOST_THREADS: usize = 32;
 
-/// One place in so many is asked for its arcs, where a place of the largest component is wanted. The others are as
-/// likely in it, and all would be looked at in twice the time of a pass over the labels.
-const SAMPLED: usize = 32;
+/// Among about so many places the heaviest is looked for.
+const LOOKED_AT: usize = 4096;
 
 /// The label of each place: the least place of its component.
 pub fn components<R: Threads + Sync>(
@@ -123,16 +122,19 @@ fn join_root(image: &Image, place: usize, labels: &mut Vec<u32>)
     join_ends(place as u32, image.out(place), labels);
 }
 
-/// The place with the most arcs out of it, of one place in so many.
+/// Of some of the places, one with the most arcs out of it.
 fn heaviest(image: &Image) -> usize {
+    let stride = image.len() / LOOKED_AT + 1;
     let mut heavy = 0;
     let mut most = 0;
-    'samples: for sample in 0..image.len() / SAMPLED {
-        let place = sample * SAMPLED;
-        let count = image.out(place).len();
-        if most < count {
-            most = count;
-            heavy = place;
+    'places: for number in 0..LOOKED_AT {
+        let place = number.saturating_mul(stride);
+        if place < image.len() {
+            let count = image.out(place).len();
+            if most < count {
+                most = count;
+                heavy = place;
+            }
         }
     }
     heavy

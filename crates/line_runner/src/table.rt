@@ -9,14 +9,13 @@ ghost use Rattle.run_model.specs.Commands.{root_of};
 ghost use Rattle.run_model.specs.Answering.{kernel_answer, IsKernelTable};
 ghost use Rattle.line_runner.specs.Kernels.{IsKernelImage};
 
-use delta_sssp::run as shortest_paths_by_buckets;
-use delta_sssp::run_by_graph as shortest_paths;
 use fast_bfs::below::run as breadth_first_search;
 use fast_bfs::run as search_both_ways;
 use graph_image::Image;
 use graph_model::{KernelRefusal, Kind, NoMemory, Table};
 use items::RoomyItems;
 use kernel_cdlp::run as communities;
+use kernel_sssp::{run as shortest_paths, run_by_width as shortest_paths_by_buckets};
 use kernel_wcc::run as components;
 use run_model::{Kernel, Name};
 use std::alloc::Global;

@@ -16,7 +16,7 @@ use graph_model::{MAX_ID, MAX_ROUNDS, MAX_WEIGHT};
 use graphalytics_io::{Fields, NumberFault, read_number};
 use std::marker::Model;
 
-/// The greatest width, which is that of `delta_sssp`'s type.
+/// The greatest width, which is that of `kernel_sssp`'s type.
 pub(crate) const MAX_WIDTH: u32 = 4294967295;
 
 /// What the fields of a line say: a value for each kind of field.

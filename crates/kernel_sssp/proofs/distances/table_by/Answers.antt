@@ -1,9 +1,9 @@
-use Rattle.std.proofs.Common.{◌≡◌, ◌+◌, length, map, take, slice_get, Some, sym, ap, ◌∙◌, subst, arith}
+use Rattle.std.proofs.Common.{◌+◌, length, map, take, Some, sym, ap, ◌∙◌, subst, arith}
 use Rattle.std.proofs.lemmas.Option.{slice_get-get_or}
 use Rattle.graph_image.specs.Entries.{AreEntries}
 use Rattle.graph_image.proofs.Lists.{map_get}
 use Rattle.graph_image.proofs.EntryLemmas.{entries_more}
-use Rattle.kernel_sssp.specs.Search.{value_of}
+use Rattle.kernel_sssp.specs.Distances.{value_of}
 use Rattle.kernel_sssp.proofs.distances.table_by.Goals as goal
 
 pub places-preserved : goal.places-preserved

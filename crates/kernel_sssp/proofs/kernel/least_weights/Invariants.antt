@@ -1,10 +1,10 @@
--- what waits is in the queue, and the arcs of all else are relaxed
-use Rattle.std.proofs.Common.{◌≡◌}
-use Rattle.kernel_sssp.specs.Search.{IsSearch, AreRelaxed, work}
+-- settled up to the bucket at hand
+use Rattle.std.proofs.Common.{◌≡◌, ◌-◌}
+use Rattle.kernel_sssp.specs.Search.{IsSearchOf}
 use Rattle.kernel_sssp.proofs.kernel.least_weights.Given as goal
 
-abbrev pub invariant-places : goal.invariant-places
-invariant-places l = IsSearch l.image l.search × AreRelaxed l.image l.search × (l.search.root ≡ l.root)
+abbrev pub invariant-buckets : goal.invariant-buckets
+invariant-buckets g l = IsSearchOf l.image l.search × (l.search.stage.root ≡ l.root)
 
-abbrev pub decreases-places : goal.decreases-places
-decreases-places l = work l.search
+abbrev pub decreases-buckets : goal.decreases-buckets
+decreases-buckets g l = 18446744073709551616 - l.search.stage.bucket

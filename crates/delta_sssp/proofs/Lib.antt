@@ -1,3 +1,0 @@
-pub mod WeightLemmas
-pub mod SearchLemmas
-pub mod LotLemmas
