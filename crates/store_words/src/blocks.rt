@@ -6,9 +6,11 @@ ghost use Rattle.std.specs.Prelude.{◌≡◌, ◌<◌, ◌≤◌, true, false, 
 ghost use Rattle.rule_model.specs.CellsModel.Cells.{CellState, lowered_word, packed, raised_word, stored, unpacked, version_word};
 ghost use Rattle.rule_model.specs.CellsModel.Words.{Spells, block_words};
 ghost use Rattle.rule_model.specs.Sight.{HasCell, cells_of, with_cell};
+ghost use Rattle.store_words.specs.Reads.{IsBlockOf};
 ghost use Rattle.store_words.specs.Steps.{Knows};
 
 use crate::accounts::Accounts;
+use crate::lines::Block;
 use crate::rule::Account;
 use std::marker::Brand;
 
@@ -22,9 +24,22 @@ impl Accounts {
         ensures same { Knows seat.old seat.new seat.old.me.0 }
         ensures told { (c : CellState) → HasCell seat.old.me.0 cell c → result ≡ slice_index c.block word }
     {
+        let begin = self.block_begin(cell);
+        self.load_held(seat, Block { cell, begin }, word)
+    }
+
+    /// Loads a word of a block whose begin was found.
+    pub fn load_held(&self, seat: &mut Account, block: Block, word: u32) -> u64
+        requires table { seat.old.table_id ≡ self.now.table.shared.table_id }
+        requires block { IsBlockOf self.now.config block }
+        requires word { word < block_words }
+        requires held { (c : CellState) × HasCell seat.old.me.0 block.cell c }
+        ensures same { Knows seat.old seat.new seat.old.me.0 }
+        ensures told { (c : CellState) → HasCell seat.old.me.0 block.cell c → result ≡ slice_index c.block word }
+    {
         // Needs no order: whoever stored the word has released the cell since, or is this pass.
-        let place = self.block_place(cell, word);
-        self.load_as::<Brand, (u32, u32)>(seat, place, &(cell, word))
+        let place = self.place_in(block, word);
+        self.load_as::<Brand, (u32, u32)>(seat, place, &(block.cell, word))
     }
 
     /// Makes the version word odd: the cell is unpacked.
@@ -51,10 +66,23 @@ impl Accounts {
         ensures stored { (c : CellState) → HasCell seat.old.me.0 cell c
             → Knows seat.old seat.new (with_cell seat.old.me.0 cell (stored c word value)) }
     {
+        let begin = self.block_begin(cell);
+        self.store_held(seat, Block { cell, begin }, word, value);
+    }
+
+    /// Stores a word of an unpacked cell's block whose begin was found.
+    pub fn store_held(&self, seat: &mut Account, block: Block, word: u32, value: u64)
+        requires table { seat.old.table_id ≡ self.now.table.shared.table_id }
+        requires block { IsBlockOf self.now.config block }
+        requires word { (1 ≤ word) × (word < block_words) }
+        requires held { (c : CellState) × HasCell seat.old.me.0 block.cell c × (c.unpacked ≡ true) }
+        ensures stored { (c : CellState) → HasCell seat.old.me.0 block.cell c
+            → Knows seat.old seat.new (with_cell seat.old.me.0 block.cell (stored c word value)) }
+    {
         // Has to be a release, after the odd version word: a read that finds this word finds another version word at
         // its second load.
-        let place = self.block_place(cell, word);
-        self.store_as::<Brand, (u32, u32)>(seat, place, value, &(cell, word));
+        let place = self.place_in(block, word);
+        self.store_as::<Brand, (u32, u32)>(seat, place, value, &(block.cell, word));
     }
 
     /// Makes the version word even again: two higher than it was if a word was stored. Where two more would not fit it

@@ -10,9 +10,11 @@ ghost use Rattle.rule_model.specs.CellsModel.Words.{block_words, spelled};
 ghost use Rattle.graph_model.specs.declared.row.Key.{Key};
 ghost use Rattle.graph_model.specs.declared.row.Row.{Row};
 ghost use Rattle.rule_model.specs.Sight.{HasCell, Sight, cells_of};
+ghost use Rattle.store_words.specs.Reads.{IsBlockOf};
 ghost use Rattle.store_words.specs.Spelling.{IsSpelling, Stays};
 
 use crate::accounts::Accounts;
+use crate::lines::Block;
 use crate::rule::Account;
 use graph_model::{Key, Row};
 
@@ -28,69 +30,71 @@ impl Accounts {
         ensures spelled { (c : CellState) → HasCell seat.old.me.0 cell c
             → IsSpelling cell seat.old.me.0 c low high rows.now (5 + 3 * length rows.now) seat.new.me.0 }
     {
+        let begin = self.block_begin(cell);
+        let block = Block { cell, begin };
         // This word is stored in any case: a block under a new version has had at least one word stored. Of the others
         // only those that differ, since each store takes its line of the cache from readers.
-        self.spell_word(seat, cell, 0, rows.len() as u64);
-        self.respell_word(seat, cell, 1, low.src);
-        self.respell_word(seat, cell, 2, low.second);
-        self.respell_word(seat, cell, 3, high.src);
-        self.respell_word(seat, cell, 4, high.second);
+        self.spell_word(seat, block, 0, rows.len() as u64);
+        self.respell_word(seat, block, 1, low.src);
+        self.respell_word(seat, block, 2, low.second);
+        self.respell_word(seat, block, 3, high.src);
+        self.respell_word(seat, block, 4, high.second);
         'rows: for place in 0..rows.len() {
-            self.respell_row(seat, cell, place as u32, rows[place]);
+            self.respell_row(seat, block, place as u32, rows[place]);
         }
     }
 
     /// Stores the words of the row at a place.
-    fn respell_row(&self, seat: &mut Account, cell: u32, place: u32, row: Row)
+    fn respell_row(&self, seat: &mut Account, block: Block, place: u32, row: Row)
         requires table { seat.old.table_id ≡ self.now.table.shared.table_id }
-        requires cell { cell < cells_of self.now.config }
+        requires block { IsBlockOf self.now.config block }
         requires place { place < 32 }
-        requires held { (c : CellState) × HasCell seat.old.me.0 cell c × (c.unpacked ≡ true) }
+        requires held { (c : CellState) × HasCell seat.old.me.0 block.cell c × (c.unpacked ≡ true) }
         ensures stays { Stays seat.old seat.new }
-        ensures held { (c : CellState) × HasCell seat.new.me.0 cell c × (c.unpacked ≡ true) }
+        ensures held { (c : CellState) × HasCell seat.new.me.0 block.cell c × (c.unpacked ≡ true) }
         ensures spelled { (v : Sight) (c : CellState) (low high : Key) (rows : List Row)
             → slice_get rows place ≡ Some row
-            → IsSpelling cell v c low high rows (5 + 3 * place) seat.old.me.0
-            → IsSpelling cell v c low high rows (5 + 3 * (place + 1)) seat.new.me.0 }
+            → IsSpelling block.cell v c low high rows (5 + 3 * place) seat.old.me.0
+            → IsSpelling block.cell v c low high rows (5 + 3 * (place + 1)) seat.new.me.0 }
     {
         let word = 5 + 3 * place;
-        self.respell_word(seat, cell, word, row.key.src);
-        self.respell_word(seat, cell, word + 1, row.key.second);
-        self.respell_word(seat, cell, word + 2, row.weight);
+        self.respell_word(seat, block, word, row.key.src);
+        self.respell_word(seat, block, word + 1, row.key.second);
+        self.respell_word(seat, block, word + 2, row.weight);
     }
 
     /// Stores the next word.
-    fn spell_word(&self, seat: &mut Account, cell: u32, place: u32, value: u64)
+    fn spell_word(&self, seat: &mut Account, block: Block, place: u32, value: u64)
         requires table { seat.old.table_id ≡ self.now.table.shared.table_id }
-        requires cell { cell < cells_of self.now.config }
+        requires block { IsBlockOf self.now.config block }
         requires place { place + 1 < block_words }
-        requires held { (c : CellState) × HasCell seat.old.me.0 cell c × (c.unpacked ≡ true) }
+        requires held { (c : CellState) × HasCell seat.old.me.0 block.cell c × (c.unpacked ≡ true) }
         ensures stays { Stays seat.old seat.new }
-        ensures held { (c : CellState) × HasCell seat.new.me.0 cell c × (c.unpacked ≡ true) }
+        ensures held { (c : CellState) × HasCell seat.new.me.0 block.cell c × (c.unpacked ≡ true) }
         ensures spelled { (v : Sight) (c : CellState) (low high : Key) (rows : List Row)
             → slice_get (spelled low high rows) place ≡ Some value
-            → IsSpelling cell v c low high rows place seat.old.me.0
-            → IsSpelling cell v c low high rows (place + 1) seat.new.me.0 }
+            → IsSpelling block.cell v c low high rows place seat.old.me.0
+            → IsSpelling block.cell v c low high rows (place + 1) seat.new.me.0 }
     {
-        self.store_word(seat, cell, place + 1, value);
+        self.store_held(seat, block, place + 1, value);
     }
 
     /// Stores the next word, unless it stands there.
-    fn respell_word(&self, seat: &mut Account, cell: u32, place: u32, value: u64)
+    fn respell_word(&self, seat: &mut Account, block: Block, place: u32, value: u64)
         requires table { seat.old.table_id ≡ self.now.table.shared.table_id }
-        requires cell { cell < cells_of self.now.config }
+        requires block { IsBlockOf self.now.config block }
         requires place { (0 < place) × (place + 1 < block_words) }
-        requires held { (c : CellState) × HasCell seat.old.me.0 cell c × (c.unpacked ≡ true) }
+        requires held { (c : CellState) × HasCell seat.old.me.0 block.cell c × (c.unpacked ≡ true) }
         ensures stays { Stays seat.old seat.new }
-        ensures held { (c : CellState) × HasCell seat.new.me.0 cell c × (c.unpacked ≡ true) }
+        ensures held { (c : CellState) × HasCell seat.new.me.0 block.cell c × (c.unpacked ≡ true) }
         ensures spelled { (v : Sight) (c : CellState) (low high : Key) (rows : List Row)
             → slice_get (spelled low high rows) place ≡ Some value
-            → IsSpelling cell v c low high rows place seat.old.me.0
-            → IsSpelling cell v c low high rows (place + 1) seat.new.me.0 }
+            → IsSpelling block.cell v c low high rows place seat.old.me.0
+            → IsSpelling block.cell v c low high rows (place + 1) seat.new.me.0 }
     {
-        let found = self.holder_load(seat, cell, place + 1);
+        let found = self.load_held(seat, block, place + 1);
         if found != value {
-            self.spell_word(seat, cell, place, value);
+            self.spell_word(seat, block, place, value);
         }
     }
 }

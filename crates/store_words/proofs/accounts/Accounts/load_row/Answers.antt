@@ -7,7 +7,7 @@ pub returns-clause-told : goal.returns-clause-told
 returns-clause-told c d has =
     let key = c.load_key-key.ensures in
     let words = key.told d has in
-    let weight = c.holder_load-weight.ensures.told d
-    (subst (λ (v : Sight). HasCell v c.args.cell d) (sym (ap (λ m. m.0) key.same.me)) has) in
+    let weight = c.load_held-weight.ensures.told d
+    (subst (λ (v : Sight). HasCell v c.args.block.cell d) (sym (ap (λ m. m.0) key.same.me)) has) in
     row_loaded d.block c.args.place (6 + 3 * c.args.place)
-    (record { key = c.load_key-key.result; weight = c.holder_load-weight.result }) refl words.0 words.1 weight
+    (record { key = c.load_key-key.result; weight = c.load_held-weight.result }) refl words.0 words.1 weight

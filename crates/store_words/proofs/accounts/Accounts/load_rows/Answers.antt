@@ -1,9 +1,9 @@
-use Rattle.std.proofs.Common.{◌≡◌, ◌≤◌, ◌<◌, ◌+◌, ◌∙◌, ◌++◌, ◌∷◌, [], ap, arith, length, length-append, refl, subst, sym, take, take_all}
+use Rattle.std.proofs.Common.{◌≤◌, ◌<◌, ◌∙◌, ◌++◌, ◌∷◌, [], ap, arith, length, length-append, subst, sym, take_all}
 use Rattle.seat_views.proofs.NumberLemmas.{some_is}
 use Rattle.rule_model.specs.CellsModel.Cells.{CellState}
 use Rattle.rule_model.specs.VersionSegment.Resting.{word_rows}
 use Rattle.rule_model.specs.CellsModel.Words.{Spells}
-use Rattle.rule_model.proofs.CellsModel.WordLemmas.{few_words, head_is_told}
+use Rattle.rule_model.proofs.CellsModel.WordLemmas.{head_is_told}
 use Rattle.rule_model.specs.Sight.{HasCell, Sight}
 use Rattle.store_words.proofs.LoadLemmas.{loaded_row, take_next}
 use Rattle.store_words.proofs.accounts.Accounts.load_rows.Goals as goal

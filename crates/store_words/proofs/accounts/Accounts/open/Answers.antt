@@ -1,5 +1,5 @@
-use Rattle.std.proofs.Common.{◌∙◌, List, ℕ, [], length, ap, sym, subst}
-use Rattle.rule_model.specs.EndSteps.{AreNewWords, first_sight}
+use Rattle.std.proofs.Common.{◌∙◌, List, ℕ, length, ap, sym, subst}
+use Rattle.rule_model.specs.EndSteps.{AreNewWords}
 use Rattle.rule_model.specs.Places.{lines}
 use Rattle.rule_model.specs.Sight.{Sight}
 use Rattle.rule_model.proofs.EndLemmas.{lines_are_new, new_table}

@@ -12,5 +12,5 @@ returns-clause-spelled c v d low high rows at is =
     let first = c.respell_word.ensures.spelled v d low high rows words.0 is in
     let second = c.respell_word-2.ensures.spelled v d low high rows words.1 first in
     let third = c.respell_word-3.ensures.spelled v d low high rows words.2
-    (subst (λ n. IsSpelling c.args.cell v d low high rows n c.respell_word-2.new.seat.me.0) two second) in
-    subst (λ n. IsSpelling c.args.cell v d low high rows n c.respell_word-3.new.seat.me.0) end third
+    (subst (λ n. IsSpelling c.args.block.cell v d low high rows n c.respell_word-2.new.seat.me.0) two second) in
+    subst (λ n. IsSpelling c.args.block.cell v d low high rows n c.respell_word-3.new.seat.me.0) end third

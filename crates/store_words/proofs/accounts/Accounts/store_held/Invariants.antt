@@ -2,7 +2,7 @@ use Rattle.seat_views.specs.Keeping.{kept_at}
 use Rattle.rule_model.specs.CellsModel.Cells.{CellState, stored}
 use Rattle.rule_model.specs.Sight.{HasCell}
 use Rattle.store_words.proofs.CellLemmas.{cell_stepped}
-use Rattle.store_words.proofs.accounts.Accounts.store_word.Given as given
+use Rattle.store_words.proofs.accounts.Accounts.store_held.Given as given
 
 abbrev pub ghosts-store_as : given.ghosts-store_as
 ghosts-store_as a = record {

@@ -1,7 +1,7 @@
 use Rattle.std.specs.Prelude.{◌≡◌, slice_index}
 use Rattle.rule_model.specs.CellsModel.Cells.{CellState}
 use Rattle.rule_model.specs.Sight.{HasCell}
-use Rattle.store_words.proofs.accounts.Accounts.holder_load.Given as given
+use Rattle.store_words.proofs.accounts.Accounts.load_held.Given as given
 
 abbrev pub ghosts-load_as : given.ghosts-load_as
 ghosts-load_as a = record {
