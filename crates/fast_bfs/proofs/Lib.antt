@@ -1,1 +1,2 @@
 pub mod PlaceSetLemmas
+pub mod FrontierLemmas

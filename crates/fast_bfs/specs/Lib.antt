@@ -1,1 +1,2 @@
 pub mod PlaceSets
+pub mod Frontiers

@@ -1,5 +1,5 @@
 -- Sets of places, as bits of words of 64.
-use Rattle.std.specs.Prelude.{◌≡◌, ℕ, ◌<◌, ◌≤◌, ◌+◌, ◌*◌, ◌/◌, ◌%◌, ◌==◌, ◌||◌, Bool, cond, List, length, slice_get, slice_index, Some, IsTrue}
+use Rattle.std.specs.Prelude.{◌≡◌, ℕ, ◌<◌, ◌≤◌, ◌+◌, ◌*◌, ◌/◌, ◌%◌, ◌==◌, Bool, cond, List, length, slice_index}
 use Rattle.std.specs.Int.{bit_at}
 use Rattle.std.specs.List.{list_any}
 use Rattle.graph_image.specs.declared.edge.Arc.{Arc}
@@ -14,15 +14,10 @@ has_bit words place = bit_at (slice_index words (place / 64)) (place % 64) == 1
 abbrev pub HasPlaces : ℕ → List ℕ → Type 0
 HasPlaces n words = n ≤ 64 * length words
 
--- just the first n of the listed places are in the set
-abbrev pub HasJust : List ℕ → List ℕ → ℕ → Type 0
-HasJust words listed n = (p : ℕ) → (IsTrue (has_bit words p) → (k : ℕ) × (k < n) × (slice_get listed k ≡ Some p))
-    × ((k : ℕ) → k < n → slice_get listed k ≡ Some p → IsTrue (has_bit words p))
-
--- the place is in the set, and else the same places are
-pub record Adds (place : ℕ) (old new : List ℕ) : Type 0 where
-  pub room : length new ≡ length old
-  pub bits : (p : ℕ) → has_bit new p ≡ (p == place || has_bit old p)
+-- of the word's places, of which this is the first, just those at the level have their bit set
+abbrev pub IsWordOf : ℕ → List ℕ → ℕ → ℕ → Type 0
+IsWordOf level distances first word = (k : ℕ) → k < 64 → first + k < length distances
+    → (bit_at word k == 1) ≡ (slice_index distances (first + k) == level)
 
 -- ---- a round along the arcs into each place
 

@@ -3,21 +3,22 @@
 //! 1. Each thread writes the distances of places of its own, and reads the set of the frontier, which nobody writes
 //!    meanwhile. So threads need nothing of each other.
 //! 2. A place stops at the first arc that comes from the frontier.
+//! 3. The round makes no list of what it reaches: where the next one goes along the arcs into places as well, it reads
+//!    the distances alone.
 
-ghost use Rattle.std.specs.Prelude.{◌≡◌, ℕ, ◌+◌, ◌<◌, [], length, OnOk};
+ghost use Rattle.std.specs.Prelude.{◌≡◌, ℕ, ◌+◌, ◌<◌, [], length};
 ghost use Rattle.graph_image.specs.Images.{AreWithin};
+ghost use Rattle.graph_image.specs.Fields.{IsImage};
 ghost use Rattle.kernel_bfs.specs.Levels.{Spreads, HasNoneAbove, FromLevel};
 ghost use Rattle.kernel_bfs.specs.declared.levels.TheConstants.{UNREACHED};
 ghost use Rattle.fast_bfs.specs.PlaceSets.{HasPlaces, IsOfLevel, meets, distance_after, IsSwept};
+ghost use Rattle.fast_bfs.specs.Frontiers.{places_at};
 
-use crate::place_set::PlaceSet;
-use graph_image::{Arc, Image, NoMemory};
+use crate::place_set::{PlaceSet, SMALL};
+use graph_image::{Arc, Image};
 use kernel_bfs::UNREACHED;
 use rayon::prelude::*;
 use std::thread::Threads;
-
-/// An image of fewer places isn't worth a thread.
-const SMALL: usize = 16384;
 
 /// Reaches each place into which an arc leads from the frontier, which is this set.
 pub fn bottom_up<R: Threads + Sync>(
@@ -26,24 +27,17 @@ pub fn bottom_up<R: Threads + Sync>(
     level: u32,
     frontier: &PlaceSet,
     distances: &mut Vec<u32>,
-    next: &mut Vec<u32>,
-) -> Result<(), NoMemory>
+)
+    requires image { IsImage image.now }
     requires level { level + 1 < UNREACHED }
     requires count { length distances.old.items ≡ length image.now.vertices }
     requires low { HasNoneAbove level distances.old.items }
     requires room { HasPlaces (length image.now.vertices) frontier.now }
     requires frontier { IsOfLevel level distances.old.items frontier.now }
-    requires none { next.old.items ≡ [] }
-    ensures { OnOk result (Spreads (FromLevel image.now distances.old.items level) (level + 1)
-        distances.old.items [] distances.new.items next.new.items) }
+    ensures { Spreads (FromLevel image.now distances.old.items level) (level + 1)
+        distances.old.items [] distances.new.items (places_at (level + 1) distances.new.items) }
 {
     sweep(rt, image, level, frontier, distances);
-    'reached: for place in 0..image.len() {
-        if distances[place] == level + 1 {
-            next.push(place as u32)?;
-        }
-    }
-    Ok(())
 }
 
 /// Gives each place without a distance the next one where an arc leads into it from the set.

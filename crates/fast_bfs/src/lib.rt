@@ -1,14 +1,15 @@
 //! Breadth-first search that finds each level in the cheaper of two ways (Beamer, Asanović and Patterson, 2012).
 //!
 //! 1. Rounds go level by level: the frontier has just the places whose distance is the level.
-//! 2. A small frontier is a list, and the arcs out of it are followed. A large one is a set too, a bit for each
-//!    place, and each place without a distance looks along the arcs into it for one that is in the set.
+//! 2. A small frontier is a list, and the arcs out of it are followed. A large one is a set, a bit for each place,
+//!    and each place without a distance looks along the arcs into it for one that is in the set.
 //! 3. While places look, on several threads, the set doesn't change, and each thread writes the distances of its
 //!    own places alone.
 #![tactic(auto)]
 
 mod arcs_into;
 pub mod below;
+mod frontier;
 mod kernel;
 mod levels;
 mod place_set;

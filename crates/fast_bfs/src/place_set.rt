@@ -3,13 +3,19 @@
 //! 1. A set of a million places has 125 kB, which stay in a core's cache while all arcs are looked at; a list of
 //!    numbers would not, and would have to be searched.
 //! 2. It is made once for a search and set anew for each round that needs it.
+//! 3. A word is made from the distances of its 64 places, so threads share out the words.
 
-ghost use Rattle.std.specs.Prelude.{◌≡◌, ℕ, ◌+◌, ◌<◌, ◌^◌, length, slice_get, slice_index, Some, IfOk};
-ghost use Rattle.fast_bfs.specs.PlaceSets.{has_bit, HasPlaces, HasJust, Adds};
+ghost use Rattle.std.specs.Prelude.{◌≡◌, ℕ, ◌+◌, ◌*◌, ◌<◌, ◌≤◌, ◌^◌, length, slice_index, IfOk};
+ghost use Rattle.fast_bfs.specs.PlaceSets.{has_bit, HasPlaces, IsWordOf};
 
 use graph_image::NoMemory;
+use rayon::prelude::*;
 use std::alloc::Global;
 use std::marker::Model;
+use std::thread::Threads;
+
+/// So few places aren't worth a thread.
+pub const SMALL: usize = 16384;
 
 /// How many places a word has.
 const WORD: usize = 64;
@@ -39,35 +45,42 @@ impl PlaceSet {
         Ok(PlaceSet { words })
     }
 
-    /// Has just these places from now on.
-    pub fn set_to(&mut self, count: usize, places: &[u32])
-        requires room { HasPlaces count self.old }
-        requires within { (k p : ℕ) → slice_get places.now k ≡ Some p → p < count }
-        ensures room { HasPlaces count self.new }
-        ensures just { HasJust self.new places.now (length places.now) }
+    /// Has just the places at the level from now on.
+    pub fn set_to_level<R: Threads + Sync>(&mut self, rt: &R, level: u32, distances: &[u32])
+        ensures room { length self.new ≡ length self.old }
+        ensures level { (i : ℕ) → i < length self.new → IsWordOf level distances.now (i * 64) (slice_index self.new i) }
     {
-        self.clear();
-        'places: for k in 0..places.len() {
-            self.add(places[k]);
+        if distances.len() < SMALL {
+            self.set_alone(level, distances);
+        } else {
+            self.set_together(rt, level, distances);
         }
     }
 
-    /// Has no place from now on.
-    fn clear(&mut self)
+    /// The same on one thread.
+    fn set_alone(&mut self, level: u32, distances: &[u32])
         ensures room { length self.new ≡ length self.old }
-        ensures none { (i : ℕ) → slice_index self.new i ≡ 0 }
+        ensures level { (i : ℕ) → i < length self.new → IsWordOf level distances.now (i * 64) (slice_index self.new i) }
     {
         'words: for i in 0..self.words.len() {
-            self.words[i] = 0;
+            self.words[i] = word_of(level, distances, i);
         }
     }
 
-    /// Has this place too.
-    fn add(&mut self, place: u32)
-        requires { HasPlaces (place + 1) self.old }
-        ensures { Adds place self.old self.new }
+    /// The same on several threads.
+    fn set_together<R: Threads + Sync>(&mut self, rt: &R, level: u32, distances: &[u32])
+        ensures room { length self.new ≡ length self.old }
+        ensures level { (i : ℕ) → i < length self.new → IsWordOf level distances.now (i * 64) (slice_index self.new i) }
     {
-        self.words[place as usize / WORD] |= 1u64 << (place as usize % WORD);
+        par_for_each_mut(
+            rt,
+            self.words.as_mut_slice(),
+            |i: usize, word: &mut u64|
+                ensures { IsWordOf level distances.entry.now (i * 64) word.new }
+            {
+                *word = word_of(level, distances, i);
+            },
+        );
     }
 
     /// Whether a place is in the set.
@@ -77,4 +90,32 @@ impl PlaceSet {
     {
         self.words[place as usize / WORD] >> (place as usize % WORD) & 1 == 1
     }
+}
+
+/// The word whose bits are set for the places at the level.
+fn word_of(level: u32, distances: &[u32], i: usize) -> u64
+    ensures { IsWordOf level distances.now (i * 64) result }
+{
+    let is_within = i <= distances.len() / WORD;
+    if is_within {
+        word_from(level, distances, i * WORD)
+    } else {
+        0
+    }
+}
+
+/// The word whose first place is this one.
+fn word_from(level: u32, distances: &[u32], first: usize) -> u64
+    requires { first ≤ length distances.now }
+    ensures { IsWordOf level distances.now first result }
+{
+    let count = (distances.len() - first).min(WORD);
+    let mut word = 0;
+    'bits: for k in 0..count {
+        let is_there = distances[first + k] == level;
+        if is_there {
+            word |= 1u64 << k;
+        }
+    }
+    word
 }

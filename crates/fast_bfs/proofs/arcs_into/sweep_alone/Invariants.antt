@@ -1,6 +1,4 @@
 -- the places before the one at hand are swept, and the others are as they were
-use Rattle.std.proofs.Common.{◌≡◌, ℕ, ◌<◌, ◌≤◌, length}
-use Rattle.std.specs.Prelude.{slice_index}
 use Rattle.fast_bfs.proofs.PlaceSetLemmas.{IsSweptTo}
 use Rattle.fast_bfs.proofs.arcs_into.sweep_alone.Given as goal
 
