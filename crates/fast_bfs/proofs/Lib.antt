@@ -1,2 +1,0 @@
-pub mod PlaceSetLemmas
-pub mod FrontierLemmas

@@ -1,2 +1,0 @@
-pub mod PlaceSets
-pub mod Frontiers
