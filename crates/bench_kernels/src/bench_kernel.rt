@@ -16,7 +16,6 @@ const ROUNDS: u32 = 10;
 #[derive(Clone, Copy)]
 pub enum BenchKernel {
     Bfs,
-    FastBfs,
     Wcc,
     Cdlp,
     Sssp,
@@ -32,8 +31,7 @@ pub fn table_of<R: Threads + Sync>(
     kernel: BenchKernel,
 ) -> Result<Table, KernelRefusal> {
     match kernel {
-        BenchKernel::Bfs => fast_bfs::below::run(rt, alloc, image, ROOT),
-        BenchKernel::FastBfs => fast_bfs::run(rt, alloc, image, ROOT),
+        BenchKernel::Bfs => kernel_bfs::run(rt, alloc, image, ROOT),
         BenchKernel::Wcc => Ok(kernel_wcc::run(rt, alloc, image)?),
         BenchKernel::Cdlp => Ok(kernel_cdlp::run(rt, alloc, image, ROUNDS)?),
         BenchKernel::Sssp => kernel_sssp::run(rt, alloc, image, ROOT),

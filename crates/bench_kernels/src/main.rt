@@ -29,9 +29,8 @@ use std::thread::Threads;
 use std::time::Instant;
 
 /// The kernels that have no width.
-const KERNELS: [(&str, BenchKernel); 5] = [
+const KERNELS: [(&str, BenchKernel); 4] = [
     ("bfs", BenchKernel::Bfs),
-    ("fastbfs", BenchKernel::FastBfs),
     ("wcc", BenchKernel::Wcc),
     ("cdlp", BenchKernel::Cdlp),
     ("sssp", BenchKernel::Sssp),

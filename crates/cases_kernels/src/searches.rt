@@ -1,4 +1,4 @@
-//! Breadth-first search, from the frontier alone and both ways.
+//! Breadth-first search.
 
 use crate::graphs::{assert_table, path, ring};
 use graph_image::{Image, KernelRefusal};
@@ -8,7 +8,7 @@ use std::process::Abort;
 use std::test::Fail;
 use std::thread::Threads;
 
-/// Asserts the distances from a root, by either search.
+/// Asserts the distances from a root.
 fn assert_distances<R: Threads + Sync + Abort>(
     rt: &R,
     alloc: Global,
@@ -16,10 +16,8 @@ fn assert_distances<R: Threads + Sync + Abort>(
     root: u64,
     want: &[(u64, u64)],
 ) -> Result<(), Fail> {
-    let table = fast_bfs::below::run(rt, alloc, image, root)?;
-    assert_table(rt, alloc, &table, want, "bfs")?;
-    let table = fast_bfs::run(rt, alloc, image, root)?;
-    assert_table(rt, alloc, &table, want, "fastbfs")
+    let table = kernel_bfs::run(rt, alloc, image, root)?;
+    assert_table(rt, alloc, &table, want, "bfs")
 }
 
 #[test]
@@ -36,10 +34,8 @@ fn each_vertex_has_its_least_number_of_arcs(rt: HostRuntime) -> Result<(), Fail>
 fn no_search_begins_where_no_vertex_is(rt: HostRuntime) -> Result<(), Fail> {
     let alloc = rt.alloc();
     let path = path(alloc)?;
-    let no_root = fast_bfs::below::run(&rt, alloc, &path, 9).err();
+    let no_root = kernel_bfs::run(&rt, alloc, &path, 9).err();
     assert_eq!(&rt; no_root, Some(KernelRefusal::NoRoot), "bfs from 9");
-    let no_root = fast_bfs::run(&rt, alloc, &path, 9).err();
-    assert_eq!(&rt; no_root, Some(KernelRefusal::NoRoot), "fastbfs from 9");
     let no_root = kernel_sssp::run(&rt, alloc, &path, 9).err();
     assert_eq!(&rt; no_root, Some(KernelRefusal::NoRoot), "sssp from 9");
     let no_root = kernel_sssp::run_by_width(&rt, alloc, &path, 9, 1).err();

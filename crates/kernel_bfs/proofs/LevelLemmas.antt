@@ -263,17 +263,6 @@ module _ (n root : ℕ) (below : root < n) where
     complete = λ m p le path. begun_complete Link m p le path;
   }
 
--- a list that is told to be empty is, and one that isn't told so isn't
-pub told_empty : (len : ℕ) (xs : List ℕ) → length xs ≡ len → (len == 0) ≡ true → xs ≡ []
-told_empty len [] count told = refl
-told_empty len (x ∷ xs) count told = absurd (let none = eqb-true len 0 told in omega arith)
-
-pub told_some : (len : ℕ) (xs : List ℕ) → length xs ≡ len → (len == 0) ≡ false → xs ≡ [] → ⊥
-told_some len xs count told none =
-    let zero_is : len ≡ 0 = sym count ∙ ap length none in
-    let yes = eq-eqb len 0 zero_is in
-    let both : true ≡ false = sym yes ∙ told in cc
-
 -- an arc leads to a place
 pub leads_within : (g : Graph) (vertices : List ℕ) (q p : ℕ) → Leads g vertices q p → p < length vertices
 leads_within g vertices q p leads = slice_get_within vertices p leads.1.to leads.1.to_at

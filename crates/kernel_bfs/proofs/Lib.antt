@@ -1,3 +1,5 @@
 pub mod SpreadLemmas
 pub mod LevelLemmas
+pub mod PlaceSetLemmas
+pub mod FrontierLemmas
 pub mod TableLemmas

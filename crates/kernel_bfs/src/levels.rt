@@ -1,17 +1,23 @@
 //! The search from level to level.
 //!
 //! 1. A round gives each place that has no distance, and to which an arc leads from the frontier, the next distance.
-//! 2. Bottom-up is taken where the frontier is at least a 24th of the places: then most places find an arc from it
-//!    soon.
-//! 3. The last round reaches no place, and the search is over.
+//! 2. Top-down it follows the arcs out of the frontier, which is cheap while few places are in it. Bottom-up each place
+//!    without a distance looks for one arc that comes from the frontier, and stops at the first: where the frontier is
+//!    large that looks at far fewer arcs.
+//! 3. Both ways have one contract, so when to change is a matter of time alone.
 
-ghost use Rattle.std.specs.Prelude.{◌≡◌, ℕ, ◌+◌, ◌<◌, [], length, slice_get, Some, IfOk, OnOk};
+ghost use Rattle.std.specs.Prelude.{◌≡◌, ℕ, ◌+◌, ◌^◌, ◌<◌, ◌≤◌, ◌/◌, [], true, false, length, IfOk, OnOk};
 ghost use Rattle.graph_model.specs.Graph.{Graph};
 ghost use Rattle.graph_image.specs.Images.{IsImageOf, Leads};
 ghost use Rattle.kernel_bfs.specs.Levels.{Spreads, Advances, FromArc, HasNoneAbove, IsFrontier, IsSearched};
+ghost use Rattle.kernel_bfs.specs.declared.levels.TheConstants.{UNREACHED};
+ghost use Rattle.kernel_bfs.specs.PlaceSets.{HasPlaces};
+ghost use Rattle.kernel_bfs.specs.Frontiers.{places_at, IsAtLevel};
 
+use crate::arcs_into::bottom_up;
 use crate::arcs_out::top_down;
-use crate::bottom_up::bottom_up;
+use crate::frontier::{Frontier, count_at, list_at};
+use crate::place_set::PlaceSet;
 use graph_image::{Image, NoMemory};
 use std::alloc::Global;
 use std::mem;
@@ -20,11 +26,8 @@ use std::thread::Threads;
 /// Stands for no distance: a graph has fewer places.
 pub const UNREACHED: u32 = 4294967295;
 
-/// A frontier of at least one place in so many is large.
-const LARGE: usize = 24;
-
-/// An image of fewer places isn't worth a thread.
-const SMALL: usize = 16384;
+/// A frontier of more than one place in so many is large.
+const LARGE: usize = 20;
 
 /// The distance of each place from the root's.
 pub fn search<R: Threads + Sync>(
@@ -40,25 +43,34 @@ pub fn search<R: Threads + Sync>(
 {
     let count = image.len();
     let mut distances = vec![in alloc; UNREACHED; count]?;
-    let mut frontier = Vec::with_capacity(alloc, count)?;
-    let mut next = Vec::with_capacity(alloc, count)?;
+    // Each list has room for all places from the start, so no round takes memory for it.
+    let mut first = Vec::with_capacity(alloc, count)?;
+    let later = Vec::with_capacity(alloc, count)?;
+    // Made once: a round along the arcs into places fills it with its frontier.
+    let mut set = PlaceSet::new(alloc, count)?;
     distances[root] = 0;
-    frontier.push(root as u32)?;
+    first.push(root as u32)?;
+    let mut frontier = Frontier {
+        count: 1,
+        places: first,
+    };
+    let mut next = Frontier {
+        count: 0,
+        places: later,
+    };
     'levels: for level in 0..count as u32 - 1 {
-        next.clear();
         round(
             rt,
-            alloc,
             image,
             level,
             &frontier,
+            &mut set,
             &mut distances,
             &mut next,
         )?;
         if next.is_empty() {
             return Ok(distances);
         }
-        // Both lists have room for all places from the start, so no round takes memory for them.
         mem::swap(&mut frontier, &mut next);
     }
     Ok(distances)
@@ -67,31 +79,78 @@ pub fn search<R: Threads + Sync>(
 /// A round: bottom-up where the frontier is large, else top-down.
 fn round<R: Threads + Sync>(
     rt: &R,
-    alloc: Global,
     image: &Image,
     level: u32,
-    frontier: &Vec<u32>,
+    frontier: &Frontier,
+    set: &mut PlaceSet,
     distances: &mut Vec<u32>,
-    next: &mut Vec<u32>,
+    next: &mut Frontier,
 ) -> Result<(), NoMemory>
     requires level { level + 1 < UNREACHED }
     requires count { length distances.old.items ≡ length image.now.vertices }
     requires low { HasNoneAbove level distances.old.items }
-    requires frontier { IsFrontier level distances.old.items frontier.now.items }
-    requires none { next.old.items ≡ [] }
-    ensures advances { OnOk result (Advances (level + 1) distances.old.items distances.new.items next.new.items) }
+    requires room { HasPlaces (length image.now.vertices) set.old }
+    requires frontier { IsAtLevel (length image.now.vertices) level distances.old.items frontier.now }
+    ensures room { HasPlaces (length image.now.vertices) set.new }
+    ensures next { OnOk result (IsAtLevel (length image.now.vertices) (level + 1) distances.new.items next.new) }
+    ensures advances { OnOk result (Advances (level + 1) distances.old.items distances.new.items
+        (places_at (level + 1) distances.new.items)) }
     ensures spreads { OnOk result ((g : Graph) → IsImageOf image.now g
         → Spreads (FromArc g image.now.vertices distances.old.items level) (level + 1)
-        distances.old.items [] distances.new.items next.new.items) }
+        distances.old.items [] distances.new.items (places_at (level + 1) distances.new.items)) }
 {
-    if is_large(frontier.len(), image.len()) {
-        bottom_up(rt, alloc, image, level, distances, next)
+    if is_large(frontier.count, image.len()) {
+        let before = distances.as_slice();
+        set.set_to_level(rt, level, before);
+        bottom_up(rt, image, level, set, distances);
+        let after = distances.as_slice();
+        take_level(level + 1, after, next)
     } else {
-        top_down(image, level, frontier, distances, next)
+        round_out(image, level, frontier, distances, next)
     }
 }
 
+/// A round top-down.
+fn round_out(
+    image: &Image,
+    level: u32,
+    frontier: &Frontier,
+    distances: &mut Vec<u32>,
+    next: &mut Frontier,
+) -> Result<(), NoMemory>
+    requires level { level + 1 < UNREACHED }
+    requires count { length distances.old.items ≡ length image.now.vertices }
+    requires low { HasNoneAbove level distances.old.items }
+    requires frontier { IsFrontier level distances.old.items frontier.now.places.items }
+    ensures next { OnOk result (IsAtLevel (length image.now.vertices) (level + 1) distances.new.items next.new) }
+    ensures advances { OnOk result (Advances (level + 1) distances.old.items distances.new.items
+        (places_at (level + 1) distances.new.items)) }
+    ensures spreads { OnOk result ((g : Graph) → IsImageOf image.now g
+        → Spreads (FromArc g image.now.vertices distances.old.items level) (level + 1)
+        distances.old.items [] distances.new.items (places_at (level + 1) distances.new.items)) }
+{
+    next.places.clear();
+    top_down(image, level, &frontier.places, distances, &mut next.places)?;
+    next.count = next.places.len();
+    Ok(())
+}
+
+/// Counts the places at the level, and lists them where they are few.
+fn take_level(level: u32, distances: &[u32], frontier: &mut Frontier) -> Result<(), NoMemory>
+    requires { length distances.now < 2 ^ 32 }
+    ensures { OnOk result (IsAtLevel (length distances.now) level distances.now frontier.new) }
+{
+    frontier.count = count_at(level, distances);
+    if is_large(frontier.count, distances.len()) {
+        return Ok(());
+    }
+    list_at(level, distances, &mut frontier.places)
+}
+
 /// Whether a frontier of so many of the places is worth looking at all of them.
-fn is_large(frontier: usize, places: usize) -> bool {
-    places >= SMALL && frontier >= places / LARGE
+fn is_large(frontier: usize, places: usize) -> bool
+    ensures large { result ≡ true → places / 20 < frontier }
+    ensures small { result ≡ false → frontier ≤ places / 20 }
+{
+    frontier > places / LARGE
 }

@@ -1,6 +1,7 @@
 //! The tables of kernels, by the names of their files.
 //!
-//! 1. All six kernels are called here and nowhere else in a run, so one more is one arm more.
+//! 1. All kernels are called here and nowhere else in a run, so one more is one arm more. Two of the six of scripts are
+//!    one: breadth-first search.
 
 ghost use Rattle.std.specs.Prelude.{◌≡◌, List, length, Err, IfOk, IfSome, IsSome};
 ghost use Rattle.graph_model.specs.Graph.{Graph};
@@ -9,11 +10,10 @@ ghost use Rattle.run_model.specs.Commands.{root_of};
 ghost use Rattle.run_model.specs.Answering.{kernel_answer, IsKernelTable};
 ghost use Rattle.line_runner.specs.Kernels.{IsKernelImage};
 
-use fast_bfs::below::run as breadth_first_search;
-use fast_bfs::run as search_both_ways;
 use graph_image::Image;
 use graph_model::{KernelRefusal, Kind, NoMemory, Table};
 use items::RoomyItems;
+use kernel_bfs::run as breadth_first_search;
 use kernel_cdlp::run as communities;
 use kernel_sssp::{run as shortest_paths, run_by_width as shortest_paths_by_buckets};
 use kernel_wcc::run as components;
@@ -53,7 +53,7 @@ pub fn kernel_table<R: Threads + Sync>(
         Kernel::Wcc => Ok(components(rt, alloc, image)?),
         Kernel::Cdlp { rounds } => Ok(communities(rt, alloc, image, rounds)?),
         Kernel::Sssp { root } => shortest_paths(rt, alloc, image, root),
-        Kernel::FastBfs { root } => search_both_ways(rt, alloc, image, root),
+        Kernel::FastBfs { root } => breadth_first_search(rt, alloc, image, root),
         // Any width gives this table, and no script that is read has the width 0.
         Kernel::FastSssp { root, width } => {
             shortest_paths_by_buckets(rt, alloc, image, root, width.max(1))

@@ -1,8 +1,0 @@
--- the places before the one at hand are swept, and the others are as they were
-use Rattle.std.proofs.Common.{◌≡◌, ℕ, ◌<◌, ◌≤◌, length}
-use Rattle.std.specs.Prelude.{slice_index}
-use Rattle.fast_bfs.proofs.PlaceSetLemmas.{IsSweptTo}
-use Rattle.fast_bfs.proofs.arcs_into.sweep_alone.Given as goal
-
-abbrev pub invariant-places : goal.invariant-places
-invariant-places l = IsSweptTo l.image l.frontier l.level l.fn.distances.items l.distances.items l.place

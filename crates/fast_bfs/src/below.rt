@@ -1,3 +1,0 @@
-//! What crates above name of crates that they don't list.
-
-pub use kernel_bfs::run;
