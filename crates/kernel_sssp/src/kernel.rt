@@ -95,12 +95,14 @@ fn least_weights<R: Threads + Sync>(
     }
 }
 
-/// A lot for each thread; none where there is one thread, or the image is small.
+/// Two lots for each thread; none where there is one thread, or the image is small.
 fn lots_for<R: Threads>(rt: &R, alloc: Global, places: usize) -> Result<Vec<Lot>, NoMemory> {
     let threads = current_num_threads(rt).min(MOST_THREADS);
     let mut lots = Vec::new(alloc);
     if places >= SMALL && threads > 1 {
-        'lots: for _lot in 0..threads {
+        // A thread fills its first lot while its neighbour fills its own first one: these two don't lie side by side, so
+        // no line of a cache is written by both.
+        'lots: for _lot in 0..threads * 2 {
             lots.push(Lot::new(alloc))?;
         }
     }
