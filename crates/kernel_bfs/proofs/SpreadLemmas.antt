@@ -1,10 +1,10 @@
 -- How places are reached: one at a time, by lists of arcs, by all at once.
-use Rattle.std.proofs.Common.{◌≡◌, ℕ, zero, suc, ◌+◌, ◌<◌, ◌≤◌, ◌⊎◌, inl, inr, ⊎_elim, List, [], ◌∷◌, ◌++◌, Bool, true, false, cond, ◌==◌, length, take, get_or, slice_get, slice_set, Some, refl, sym, ap, ◌∙◌, subst, arith, length-set}
+use Rattle.std.proofs.Common.{◌≡◌, ℕ, zero, suc, ◌+◌, ◌<◌, ◌≤◌, ◌⊎◌, inl, inr, ⊎_elim, List, [], ◌∷◌, ◌++◌, Bool, true, false, cond, ◌==◌, length, take, slice_get, slice_set, Some, refl, sym, ap, ◌∙◌, subst, arith, length-set}
 use Rattle.std.specs.Prelude.{slice_index}
 use Rattle.std.proofs.lemmas.Bool.{cases_lt, cases_eq, cases_Bool, eq-eqb, eqb-true, ne_eqb}
-use Rattle.std.specs.Prelude.{◌||◌, Result, Ok, Err, OnOk}
-use Rattle.std.proofs.lemmas.List.{take_more, take_all, take-append-le}
-use Rattle.std.proofs.lemmas.List.Folds.{list_any-append, list_any_at, Any-from_list_any}
+use Rattle.std.specs.Prelude.{Result, Ok, Err, OnOk}
+use Rattle.std.proofs.lemmas.List.{take_all, take-append-le}
+use Rattle.std.proofs.lemmas.List.Folds.{list_any_at, Any-from_list_any}
 use Rattle.std.proofs.lemmas.Option.{same_Some, none-some, slice_get_within, slice_get-get_or, get_or_from_slice_get}
 use Rattle.graph_model.specs.Graph.{Graph}
 use Rattle.graph_image.specs.declared.edge.Arc.{Arc}
@@ -163,13 +163,6 @@ listed_more image frontier distance walked old listed now next i spread q at arc
     (spread_on (FromListed image frontier i) distance walked old listed now next spread (AtEnd arcs (length arcs)) new later more)
 
 -- ---- all places at once
-
--- none of no arcs is at the level, and none of those before the next
-pub none_at_more : (distances : List ℕ) (level : ℕ) (arcs : List Arc) (i : ℕ) (d : Arc) → i < length arcs → has_at distances level (take i arcs) ≡ false → (slice_index distances (get_or arcs i d).other ≡ level → ⊥)
-    → has_at distances level (take (i + 1) arcs) ≡ false
-none_at_more distances level arcs i d below none other =
-    ap (has_at distances level) (take_more arcs i d below) ∙ list_any-append (λ (a : Arc). slice_index distances a.other == level) (take i arcs) (get_or arcs i d ∷ [])
-    ∙ (λ j. none j || (ne_eqb (slice_index distances (get_or arcs i d).other) level other j || false))
 
 -- one at the level is found, and what is found is there
 at_there : (distances : List ℕ) (level : ℕ) (arcs : List Arc) (k : ℕ) (a : Arc) → slice_get arcs k ≡ Some a → slice_get distances a.other ≡ Some level → has_at distances level arcs ≡ true
