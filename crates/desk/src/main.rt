@@ -69,15 +69,7 @@ fn run<'a, R: Threads + Wait + Clock + Print + Eprint + Sync>(
     let mut duties = [
         Duty::Book(new_clerk(rt, words, first, &busy)),
         Duty::Book(new_clerk(rt, words, rest, &busy)),
-        Duty::Watch(Watcher {
-            rt,
-            alloc,
-            pause: words.between_looks,
-            busy: &busy,
-            known: KnownRings::nothing(alloc),
-            looks: 0,
-            refused: None,
-        }),
+        Duty::Watch(new_watcher(rt, alloc, words, &busy)),
     ];
     store.run(rt, &mut duties);
     let mut last = LastLook {
@@ -110,6 +102,24 @@ fn new_clerk<'a, R: Clock>(
         booked: 0,
         refused: 0,
         taken: None,
+    }
+}
+
+/// A watcher who hasn't looked yet.
+fn new_watcher<'a, R: Threads + Clock + Eprint + Sync>(
+    rt: &'a R,
+    alloc: Global,
+    words: &Words,
+    busy: &'a AtomicU64,
+) -> Watcher<'a, R> {
+    Watcher {
+        rt,
+        alloc,
+        pause: words.between_looks,
+        busy,
+        known: KnownRings::nothing(alloc),
+        looks: 0,
+        refused: None,
     }
 }
 

@@ -76,10 +76,6 @@ pub behind_header : (kind : Kind) (rest : List ℕ) → drop 9 (header kind ++ r
 behind_header Undirected rest = refl
 behind_header Directed rest = refl
 
-pub length-header : (kind : Kind) → length (header kind) ≡ 9
-length-header Undirected = refl
-length-header Directed = refl
-
 -- whatever comes behind a gate that isn't open
 pub stands : (kind : Kind) (commits : List Commit) (gate : ℕ) (rest : List ℕ) → AreEntries 1 commits → gate ≢ 1
     → StandsFor kind commits (header kind ++ flat_map entry commits ++ gate ∷ rest)
@@ -113,7 +109,3 @@ module _ (file : List ℕ) (at : ℕ) (journal : List Commit)
       ∙ ap (λ cs. journal ++ cs) (from_some (length journal + 1) (drop at file) c is
       ∙ (λ i. c ∷ commits_from (count i) (drop-drop (entry_len c) at file i)))
       ∙ sym (append_assoc journal (c ∷ []) (commits_from (length (journal ++ c ∷ []) + 1) (drop (at + entry_len c) file)))
-
-  pub commits_last : gated (length journal + 1) (drop at file) ≡ None → commits_from 1 (drop 9 file) ≡ journal
-  commits_last none =
-      so_far ∙ ap (λ cs. journal ++ cs) (from_none (length journal + 1) (drop at file) none) ∙ append-nil journal

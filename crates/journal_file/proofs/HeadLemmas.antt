@@ -1,5 +1,5 @@
 -- A head that is read by itself, before the writes behind it.
-use Rattle.std.proofs.Common.{◌≡◌, ℕ, suc, ◌+◌, ◌-◌, ◌*◌, ◌<◌, ◌≤◌, List, [], ◌∷◌, length, take, drop, get_or, refl, sym, ◌∙◌, ap, arith, length-take, length-drop, ◌/◌}
+use Rattle.std.proofs.Common.{◌≡◌, ℕ, suc, ◌+◌, ◌-◌, ◌*◌, ◌<◌, ◌≤◌, List, [], ◌∷◌, length, take, drop, get_or, refl, sym, ◌∙◌, ap, arith, length-drop, ◌/◌}
 use Rattle.std.specs.Prelude.{Bool, true, false, ◌==◌, ◌&&◌, cond, nat_le, Option, Some, None, option_map}
 use Rattle.std.specs.Int.{w32, w64, from_le_bytes}
 use Rattle.std.specs.Str.{bytes_eq}
@@ -7,12 +7,10 @@ use Rattle.std.proofs.lemmas.Bool.Decides.{nat_tests}
 use Rattle.std.proofs.lemmas.List.{drop-drop, take_all}
 use Rattle.std.proofs.lemmas.Nat.{div-add-mod'}
 use Rattle.std.proofs.lemmas.Slice.Eq.{bytes_eq-Decides}
-use Rattle.graph_model.specs.declared.write.Kind.TheVariants.{Directed, Undirected}
 use Rattle.graph_model.specs.declared.write.Write.{Write}
 use Rattle.graph_model.specs.declared.journal.Commit.{Commit}
 use Rattle.journal_file.specs.declared.reading.CommitHead.{CommitHead}
-use Rattle.journal_file.specs.Format.{header}
-use Rattle.journal_file.specs.Reading.{head_of, is_next, with_writes, writes_of, commit_of, gated, kind_in}
+use Rattle.journal_file.specs.Reading.{head_of, is_next, with_writes, writes_of, commit_of, gated}
 use Rattle.journal_file.specs.Recovering.{open_head, gated_head}
 use Rattle.journal_file.proofs.ReadLemmas.{inside, writes_within}
 
@@ -72,32 +70,7 @@ not_same xs ys other =
       | false ↦ λ e. refl
     ] refl
 
--- a file that is too short has no header
-pub no_header : (file : List ℕ) → length file < 9 → kind_in file ≡ None
-no_header file lt =
-    let short : length (take 9 file) ≡ length file = omega (arith, length-take 9 file, lt) in
-    let one = not_same (take 9 file) (header Undirected) (λ e. let nine : length (take 9 file) ≡ 9 = e in omega (arith, nine, short, lt)) in
-    let two = not_same (take 9 file) (header Directed) (λ e. let nine : length (take 9 file) ≡ 9 = e in omega (arith, nine, short, lt)) in
-    λ i. cond (one i) (Some Undirected) (cond (two i) (Some Directed) None)
-
 -- ---- a head, by its front
-
--- too few bytes have no head
-pub short_head : (stamp : ℕ) (bytes : List ℕ) → length bytes < 33 → gated_head stamp bytes ≡ None
-short_head stamp bytes lt =
-    ap (λ b. cond b (open_head (take 33 bytes) (length bytes - 33) stamp) None) (not_long (length bytes) lt)
-  where
-    not_long : (n : ℕ) → n < 33 → nat_le 33 n ≡ false
-    not_long n less = grind (arith, nat_tests)
-
-pub long_head : (stamp : ℕ) (bytes front : List ℕ) (behind : ℕ) → front ≡ take 33 bytes → behind ≡ length bytes - 33 → 33 ≤ length bytes
-    → open_head front behind stamp ≡ gated_head stamp bytes
-long_head stamp bytes front behind is rest le =
-    (λ i. open_head (is i) (rest i) stamp)
-    ∙ sym (ap (λ b. cond b (open_head (take 33 bytes) (length bytes - 33) stamp) None) (so_long (length bytes) le))
-  where
-    so_long : (n : ℕ) → 33 ≤ n → nat_le 33 n ≡ true
-    so_long n more = grind (arith, nat_tests)
 
 -- no head, no commit
 pub none_by_head : (stamp : ℕ) (bytes : List ℕ) → None ≡ gated_head stamp bytes → None ≡ gated stamp bytes

@@ -41,12 +41,6 @@ put_more : (ws : List Write) (w : Write) (found : Option (List Write)) → put_a
 put_more ws w None = refl
 put_more ws w (Some vs) = ap Some (sym (append_assoc ws (w ∷ []) vs))
 
-pub writes_first : (count : ℕ) (bytes : List ℕ) → writes_of count bytes ≡ put_all [] (writes_of (count - 0) (drop (25 * 0) bytes))
-writes_first count bytes =
-    let all : count ≡ count - 0 = omega arith in
-    let start : 0 ≡ 25 * 0 = omega arith in
-    put_nothing (writes_of count bytes) ∙ (λ i. put_all [] (writes_of (all i) (drop (start i) bytes)))
-
 module _ (count place : ℕ) (bytes : List ℕ) (ws : List Write) (lt : place < count)
     (so_far : writes_of count bytes ≡ put_all ws (writes_of (count - place) (drop (25 * place) bytes))) where
   one_first : writes_of (count - place) (drop (25 * place) bytes)
@@ -67,12 +61,6 @@ module _ (count place : ℕ) (bytes : List ℕ) (ws : List Write) (lt : place < 
   pub writes_none : write_of (take 25 (drop (25 * place) bytes)) ≡ None → writes_of count bytes ≡ None
   writes_none is =
       so_far ∙ ap (put_all ws) (one_first ∙ ap (λ found. put_first found (writes_of (count - (place + 1)) (drop (25 * (place + 1)) bytes))) is)
-
-pub writes_last : (count : ℕ) (bytes : List ℕ) (ws : List Write) (place : ℕ) → place ≡ count
-    → writes_of count bytes ≡ put_all ws (writes_of (count - place) (drop (25 * place) bytes)) → writes_of count bytes ≡ Some ws
-writes_last count bytes ws place end so_far =
-    let none : count - place ≡ 0 = omega (arith, end) in
-    so_far ∙ ap (λ n. put_all ws (writes_of n (drop (25 * place) bytes))) none ∙ ap Some (append-nil ws)
 
 -- the bytes of so many writes, whatever comes behind them
 pub writes_within : (count k : ℕ) (bytes : List ℕ) → 25 * count ≤ k → writes_of count (take k bytes) ≡ writes_of count bytes

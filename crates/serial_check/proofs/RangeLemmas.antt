@@ -1,5 +1,5 @@
 -- Ranges that are apart: what a search by halves finds, and which keys they cover.
-use Rattle.std.proofs.Common.{◌≡◌, ℕ, zero, suc, ◌+◌, ◌-◌, ◌/◌, ◌<◌, ◌≤◌, List, [], ◌∷◌, ◌++◌, take, drop, length, refl, sym, ◌∙◌, ap, arith, inl, inr}
+use Rattle.std.proofs.Common.{◌≡◌, ℕ, zero, suc, ◌+◌, ◌-◌, ◌/◌, ◌<◌, ◌≤◌, List, [], ◌∷◌, ◌++◌, refl, sym, ◌∙◌, ap, arith, inl, inr}
 use Rattle.std.specs.Prelude.{◌⊎◌, Bool, true, false, ◌&&◌, ◌||◌, not, nat_lt, slice_get, Some}
 use Rattle.std.specs.List.{list_any}
 use Rattle.std.proofs.lemmas.Bool.{or_left, or_right, true≢false, cases_eq}
@@ -156,31 +156,4 @@ pub any_none : {X : Type 0} (p : X → Bool) (xs : List X) → ((i : ℕ) (x : X
 any_none p [] none = refl
 any_none p (x ∷ xs) none = λ i. none 0 x refl i || any_none p xs (λ k y e. none (suc k) y e) i
 
-pub any_here : {X : Type 0} (p : X → Bool) (xs : List X) (i : ℕ) (x : X) → slice_get xs i ≡ Some x → p x ≡ true → list_any p xs ≡ true
-any_here p [] i x e h = cc
-any_here p (y ∷ xs) zero x e h = or_left _ _ (ap p (some_eq y x e) ∙ h)
-any_here p (y ∷ xs) (suc i) x e h = or_right (p y) _ (any_here p xs i x e h)
-
 -- ---- one element of a list less
-
-remove_next : {X : Type 0} (front rest : List X) → take (length front) (front ++ rest) ++ drop (suc (length front)) (front ++ rest) ≡ front ++ drop 1 rest
-remove_next [] [] = refl
-remove_next [] (x ∷ rest) = refl
-remove_next (y ∷ front) rest = ap (λ zs. y ∷ zs) (remove_next front rest)
-
-drop_next : {X : Type 0} (n : ℕ) (xs : List X) → drop 1 (drop n xs) ≡ drop (suc n) xs
-drop_next zero xs = refl
-drop_next (suc n) [] = refl
-drop_next (suc n) (x ∷ xs) = drop_next n xs
-
-take_length : {X : Type 0} (n : ℕ) (xs : List X) → n ≤ length xs → length (take n xs) ≡ n
-take_length zero xs le = refl
-take_length (suc n) [] le = absurd (omega arith)
-take_length (suc n) (x ∷ xs) le = ap suc (take_length n xs (omega arith))
-
--- what stands at the place where the front ends is taken away
-pub removes_one : {X : Type 0} (xs : List X) (from at : ℕ) → from ≤ length xs → take from (take from xs ++ drop at xs) ++ drop (suc from) (take from xs ++ drop at xs) ≡ take from xs ++ drop (suc at) xs
-removes_one xs from at le =
-    (λ i. take (sym (take_length from xs le) i) (take from xs ++ drop at xs) ++ drop (suc (sym (take_length from xs le) i)) (take from xs ++ drop at xs))
-    ∙ remove_next (take from xs) (drop at xs)
-    ∙ ap (λ ys. take from xs ++ ys) (drop_next at xs)
