@@ -1,5 +1,4 @@
 pub mod ReachedLemmas
-pub mod LotLemmas
 pub mod SearchLemmas
 pub mod TableLemmas
 pub mod WeightLemmas

@@ -1,5 +1,5 @@
 -- What a search keeps when an arc is followed, when a visit is made, and when a bucket is settled.
-use Rattle.std.proofs.Common.{◌≡◌, ℕ, ◌+◌, ◌/◌, ◌<◌, ◌≤◌, ◌^◌, ◌⊎◌, inl, inr, ⊎_elim, List, [], ◌∷◌, ◌++◌, Option, None, Some, length, set, replicate, slice_get, refl, sym, ap, ◌∙◌, subst, arith}
+use Rattle.std.proofs.Common.{◌≡◌, ℕ, ◌+◌, ◌/◌, ◌<◌, ◌≤◌, ◌^◌, ⊎_elim, List, [], ◌∷◌, ◌++◌, Option, None, Some, length, set, replicate, slice_get, refl, sym, ap, ◌∙◌, subst, arith}
 use Rattle.std.specs.Prelude.{slice_index, sum_by, unwrap_or}
 use Rattle.std.specs.Ordering.{nat_cmp}
 use Rattle.std.specs.BTreeMap.{get}
@@ -11,7 +11,7 @@ use Rattle.std.proofs.lemmas.List.Sums.{sum_by-set}
 use Rattle.std.proofs.lemmas.Option.{same_Some, none-some, slice_get_within}
 use Rattle.graph_model.specs.declared.limits.TheConstants.{MAX_WEIGHT}
 use Rattle.graph_image.specs.declared.edge.Arc.{Arc}
-use Rattle.graph_image.specs.Images.{Places, arcs_at, AreWithin}
+use Rattle.graph_image.specs.Images.{Places, arcs_at}
 use Rattle.graph_image.proofs.Lists.{get_pushed, get_last, get_push_cases, below_cases, only_one}
 use Rattle.kernel_sssp.specs.declared.distances.TheConstants.{UNREACHED}
 use Rattle.kernel_sssp.specs.Distances.{LinkOut, IsSearched, IsRelaxed}
@@ -20,8 +20,8 @@ use Rattle.kernel_sssp.specs.declared.buckets.Buckets.{Buckets}
 use Rattle.kernel_sssp.specs.declared.search.BucketStage.{BucketStage}
 use Rattle.kernel_sssp.specs.declared.search.BucketSearch.{BucketSearch}
 use Rattle.kernel_sssp.specs.Buckets.{visits_in, HasNone, Puts, TakesFirst}
-use Rattle.kernel_sssp.specs.Search.{AreRelaxed, IsVisit, IsVisited, IsSearch, IsSearchOf, spread, IsStart, IsPut, IsLowered, Follows, Steps, Advances, IsAmong, IsLong, HasShort, AreShort}
-use Rattle.kernel_sssp.proofs.WeightLemmas.{zero_reached, at_root, at_other, weights_start, sum_fits, sum_reached, kept_relaxed, lowered, here, there, no_greater, p_other, keeps_relaxed, now_relaxed, lowered_weights, weights_done}
+use Rattle.kernel_sssp.specs.Search.{AreRelaxedTo, AreRelaxed, IsVisit, IsVisited, IsSearch, IsSearchOf, spread, IsStart, IsPut, IsLowered, Follows, Steps, Advances}
+use Rattle.kernel_sssp.proofs.WeightLemmas.{zero_reached, at_root, at_other, weights_start, sum_fits, sum_reached, kept_relaxed, lowered, here, there, p_other, keeps_relaxed, now_relaxed, lowered_weights, weights_done}
 
 -- a greater distance is in no lower bucket
 pub bucket_rises : (x y width : ℕ) → 0 < width → x ≤ y → x / width ≤ y / width
@@ -178,28 +178,26 @@ module _ (image : Places) (stage : BucketStage) (ds : List ℕ) (visits : List V
 
 -- ---- the arcs of a visit so far
 
-pub record IsFollowing (image : Places) (visit : Visit) (Done : Arc → Type 0) (old s : BucketSearch) : Type 0 where
+pub record IsFollowing (image : Places) (visit : Visit) (i : ℕ) (old s : BucketSearch) : Type 0 where
   pub search : IsSearchOf image s
   pub stage_is : s.stage ≡ old.stage
   pub here_is : slice_index s.distances.items visit.place ≡ visit.distance
-  pub relaxed : (a : Arc) → Done a → IsRelaxed s.distances.items visit.place a
-  pub low : (p : ℕ) → slice_index s.distances.items p ≤ slice_index old.distances.items p
+  pub relaxed : AreRelaxedTo i image s.distances.items visit.place
   pub visits_stay : (k : ℕ) (v : Visit) → slice_get old.visits.items k ≡ Some v → slice_get s.visits.items k ≡ Some v
   pub no_more : spread s ≤ spread old
 
-pub following_start : (image : Places) (visit : Visit) (Done : Arc → Type 0) (old : BucketSearch) → IsSearchOf image old → slice_index old.distances.items visit.place ≡ visit.distance → ((a : Arc) → Done a → ⊥) → IsFollowing image visit Done old old
-following_start image visit Done old is here_is none = record {
+pub following_start : (image : Places) (visit : Visit) (old : BucketSearch) → IsSearchOf image old → slice_index old.distances.items visit.place ≡ visit.distance → IsFollowing image visit 0 old old
+following_start image visit old is here_is = record {
   search = is;
   stage_is = refl;
   here_is = here_is;
-  relaxed = λ a done. absurd (none a done);
-  low = λ p. omega arith;
+  relaxed = λ k a below at. absurd (omega arith);
   visits_stay = λ k v at. at;
   no_more = omega arith;
 }
 
-module _ (image : Places) (visit : Visit) (Done Later : Arc → Type 0) (old s : BucketSearch) (so_far : IsFollowing image visit Done old s) (right : IsVisit (length image.vertices) old.stage.width old.stage.bucket visit)
-    (i : ℕ) (a : Arc) (at : slice_get (arcs_at image.out visit.place) i ≡ Some a) (a_within : a.other < length image.vertices) (light : a.weight ≤ MAX_WEIGHT) where
+module _ (image : Places) (visit : Visit) (i : ℕ) (old s : BucketSearch) (so_far : IsFollowing image visit i old s) (right : IsVisit (length image.vertices) old.stage.width old.stage.bucket visit)
+    (a : Arc) (at : slice_get (arcs_at image.out visit.place) i ≡ Some a) (a_within : a.other < length image.vertices) (light : a.weight ≤ MAX_WEIGHT) where
   place_reached : slice_index s.distances.items visit.place ≡ UNREACHED → ⊥
   place_reached none = right.reached_is (sym so_far.here_is ∙ none)
 
@@ -209,119 +207,71 @@ module _ (image : Places) (visit : Visit) (Done Later : Arc → Type 0) (old s :
   pub following_fits : visit.distance + a.weight < UNREACHED
   following_fits = (let f = sum_fits image s.stage.root s.distances.items so_far.search.weights visit.place i a right.place_is place_reached at a_within light in let h = so_far.here_is in omega arith)
 
-  -- an arc that leads nowhere at a lesser distance is relaxed
-  pub following_long : slice_index s.distances.items a.other ≤ visit.distance + a.weight → IsRelaxed s.distances.items visit.place a
-  following_long le = kept_relaxed image s.stage.root s.distances.items so_far.search.weights visit.place i a right.place_is place_reached at a_within light
-      (subst (λ d. slice_index s.distances.items a.other ≤ d + a.weight) (sym so_far.here_is) le)
+  same_arc : (k : ℕ) (b : Arc) → slice_get (arcs_at image.out visit.place) k ≡ Some b → k ≡ i → a ≡ b
+  same_arc k b at_k now = same_Some a b (sym at ∙ ap (λ j. slice_get (arcs_at image.out visit.place) j) (sym now) ∙ at_k)
 
-  module _ (more : (b : Arc) → Later b → Done b ⊎ (a ≡ b)) where
-    pub following_kept : slice_index s.distances.items a.other ≤ visit.distance + a.weight → IsFollowing image visit Later old s
-    following_kept le = record {
-      search = so_far.search;
-      stage_is = so_far.stage_is;
-      here_is = so_far.here_is;
-      relaxed = λ b later. ⊎_elim
-          (λ earlier. so_far.relaxed b earlier)
-          (λ now. subst (IsRelaxed s.distances.items visit.place) now (following_long le))
-          (more b later);
-      low = so_far.low;
-      visits_stay = so_far.visits_stay;
-      no_more = so_far.no_more;
+  -- past an arc that is relaxed
+  following_same : IsRelaxed s.distances.items visit.place a → IsFollowing image visit (i + 1) old s
+  following_same is = record {
+    search = so_far.search;
+    stage_is = so_far.stage_is;
+    here_is = so_far.here_is;
+    relaxed = λ k b below at_k. ⊎_elim
+        (λ earlier. so_far.relaxed k b earlier at_k)
+        (λ now. subst (IsRelaxed s.distances.items visit.place) (same_arc k b at_k now) is)
+        (below_cases k i below);
+    visits_stay = so_far.visits_stay;
+    no_more = so_far.no_more;
+  }
+
+  pub following_kept : slice_index s.distances.items a.other ≤ visit.distance + a.weight → IsFollowing image visit (i + 1) old s
+  following_kept le = following_same (kept_relaxed image s.stage.root s.distances.items so_far.search.weights visit.place i a right.place_is place_reached at a_within light
+      (subst (λ d. slice_index s.distances.items a.other ≤ d + a.weight) (sym so_far.here_is) le))
+
+  module _ (new : BucketSearch) (less : visit.distance + a.weight < slice_index s.distances.items a.other) (lowers : IsLowered a.other (visit.distance + a.weight) s new) where
+    less_here : slice_index s.distances.items visit.place + a.weight < slice_index s.distances.items a.other
+    less_here = subst (λ d. d + a.weight < slice_index s.distances.items a.other) (sym so_far.here_is) less
+
+    put_here : IsPut ((slice_index s.distances.items visit.place + a.weight) / s.stage.width) s.stage.bucket (record { place = a.other; distance = slice_index s.distances.items visit.place + a.weight }) s.visits.items s.later new.visits.items new.later
+    put_here = subst (λ d. IsPut ((d + a.weight) / s.stage.width) s.stage.bucket (record { place = a.other; distance = d + a.weight }) s.visits.items s.later new.visits.items new.later) (sym so_far.here_is) lowers.put
+
+    distances_here : new.distances.items ≡ set s.distances.items a.other (slice_index s.distances.items visit.place + a.weight)
+    distances_here = lowers.distances_are ∙ ap (λ d. set s.distances.items a.other (d + a.weight)) (sym so_far.here_is)
+
+    relaxed_now : AreRelaxedTo (i + 1) image (set s.distances.items a.other (slice_index s.distances.items visit.place + a.weight)) visit.place
+    relaxed_now k b below at_k = ⊎_elim
+        (λ earlier. keeps_relaxed image s.stage.root s.distances.items so_far.search.weights visit.place i a right.place_is place_reached at a_within light less_here visit.place b
+        (p_other image s.stage.root s.distances.items so_far.search.weights visit.place i a right.place_is place_reached at a_within light less_here) (so_far.relaxed k b earlier at_k))
+        (λ now. subst (IsRelaxed (set s.distances.items a.other (slice_index s.distances.items visit.place + a.weight)) visit.place) (same_arc k b at_k now)
+        (now_relaxed image s.stage.root s.distances.items so_far.search.weights visit.place i a right.place_is place_reached at a_within light less_here))
+        (below_cases k i below)
+
+    pub following_lowered : IsFollowing image visit (i + 1) old new
+    following_lowered = record {
+      search = subst (λ (t : BucketStage). IsSearch image t new.distances.items new.visits.items new.later) (sym lowers.stage_is)
+          (subst (λ ds. IsSearch image s.stage ds new.visits.items new.later) (sym distances_here)
+          (lowered_search image s.stage s.distances.items s.visits.items s.later so_far.search visit.place i a right.place_is place_reached place_bucket at a_within light less_here new.visits.items new.later put_here));
+      stage_is = lowers.stage_is ∙ so_far.stage_is;
+      here_is = ap (λ ds. slice_index ds visit.place) distances_here
+          ∙ there image s.stage.root s.distances.items so_far.search.weights visit.place i a right.place_is place_reached at a_within light less_here visit.place
+          (p_other image s.stage.root s.distances.items so_far.search.weights visit.place i a right.place_is place_reached at a_within light less_here)
+          ∙ so_far.here_is;
+      relaxed = subst (λ ds. AreRelaxedTo (i + 1) image ds visit.place) (sym distances_here) relaxed_now;
+      visits_stay = λ k v at_k. put_stays s.stage.bucket _ _ s.visits.items new.visits.items s.later new.later put_here k v (so_far.visits_stay k v at_k);
+      no_more = (let d = ap (sum_by (λ x. x)) distances_here in
+          let l = lowered_spread image s.stage s.distances.items s.visits.items s.later so_far.search visit.place i a right.place_is place_reached place_bucket at a_within light less_here new.visits.items new.later put_here in
+          let m = so_far.no_more in omega arith);
     }
 
-    module _ (new : BucketSearch) (less : visit.distance + a.weight < slice_index s.distances.items a.other) (lowers : IsLowered a.other (visit.distance + a.weight) s new) where
-      less_here : slice_index s.distances.items visit.place + a.weight < slice_index s.distances.items a.other
-      less_here = subst (λ d. d + a.weight < slice_index s.distances.items a.other) (sym so_far.here_is) less
-
-      put_here : IsPut ((slice_index s.distances.items visit.place + a.weight) / s.stage.width) s.stage.bucket (record { place = a.other; distance = slice_index s.distances.items visit.place + a.weight }) s.visits.items s.later new.visits.items new.later
-      put_here = subst (λ d. IsPut ((d + a.weight) / s.stage.width) s.stage.bucket (record { place = a.other; distance = d + a.weight }) s.visits.items s.later new.visits.items new.later) (sym so_far.here_is) lowers.put
-
-      distances_here : new.distances.items ≡ set s.distances.items a.other (slice_index s.distances.items visit.place + a.weight)
-      distances_here = lowers.distances_are ∙ ap (λ d. set s.distances.items a.other (d + a.weight)) (sym so_far.here_is)
-
-      relaxed_now : (b : Arc) → Later b → IsRelaxed (set s.distances.items a.other (slice_index s.distances.items visit.place + a.weight)) visit.place b
-      relaxed_now b later = ⊎_elim
-          (λ earlier. keeps_relaxed image s.stage.root s.distances.items so_far.search.weights visit.place i a right.place_is place_reached at a_within light less_here visit.place b
-          (p_other image s.stage.root s.distances.items so_far.search.weights visit.place i a right.place_is place_reached at a_within light less_here) (so_far.relaxed b earlier))
-          (λ now. subst (IsRelaxed (set s.distances.items a.other (slice_index s.distances.items visit.place + a.weight)) visit.place) now
-          (now_relaxed image s.stage.root s.distances.items so_far.search.weights visit.place i a right.place_is place_reached at a_within light less_here))
-          (more b later)
-
-      low_now : (p : ℕ) → slice_index new.distances.items p ≤ slice_index old.distances.items p
-      low_now p =
-          let d = ap (λ ds. slice_index ds p) distances_here in
-          let n = no_greater image s.stage.root s.distances.items so_far.search.weights visit.place i a right.place_is place_reached at a_within light less_here p in
-          let l = so_far.low p in
-          omega arith
-
-      pub following_lowered : IsFollowing image visit Later old new
-      following_lowered = record {
-        search = subst (λ (t : BucketStage). IsSearch image t new.distances.items new.visits.items new.later) (sym lowers.stage_is)
-            (subst (λ ds. IsSearch image s.stage ds new.visits.items new.later) (sym distances_here)
-            (lowered_search image s.stage s.distances.items s.visits.items s.later so_far.search visit.place i a right.place_is place_reached place_bucket at a_within light less_here new.visits.items new.later put_here));
-        stage_is = lowers.stage_is ∙ so_far.stage_is;
-        here_is = ap (λ ds. slice_index ds visit.place) distances_here
-            ∙ there image s.stage.root s.distances.items so_far.search.weights visit.place i a right.place_is place_reached at a_within light less_here visit.place
-            (p_other image s.stage.root s.distances.items so_far.search.weights visit.place i a right.place_is place_reached at a_within light less_here)
-            ∙ so_far.here_is;
-        relaxed = λ b later. subst (λ ds. IsRelaxed ds visit.place b) (sym distances_here) (relaxed_now b later);
-        low = low_now;
-        visits_stay = λ k v at_k. put_stays s.stage.bucket _ _ s.visits.items new.visits.items s.later new.later put_here k v (so_far.visits_stay k v at_k);
-        no_more = (let d = ap (sum_by (λ x. x)) distances_here in
-            let l = lowered_spread image s.stage s.distances.items s.visits.items s.later so_far.search visit.place i a right.place_is place_reached place_bucket at a_within light less_here new.visits.items new.later put_here in
-            let m = so_far.no_more in omega arith);
-      }
-
--- among those before one number more is what stood before, and the arc at that number
-pub among_more : (arcs : List Arc) (from i : ℕ) (a b : Arc) → slice_get arcs i ≡ Some a → IsAmong arcs from (i + 1) b → IsAmong arcs from i b ⊎ (a ≡ b)
-among_more arcs from i a b at among = ⊎_elim
-    (λ earlier. inl (among.0, among.1, earlier, among.3))
-    (λ now. inr (same_Some a b (sym at ∙ ap (slice_get arcs) (sym now) ∙ among.3)))
-    (below_cases among.0 i among.2)
-
 -- past all arcs
-pub followed : (image : Places) (visit : Visit) (Done : Arc → Type 0) (old s : BucketSearch) → IsFollowing image visit Done old s → IsVisit (length image.vertices) old.stage.width old.stage.bucket visit
-    → ((k : ℕ) (a : Arc) → slice_get (arcs_at image.out visit.place) k ≡ Some a → Done a ⊎ IsLong (length image.vertices) old.distances.items visit a) → Follows image visit old s
-followed image visit Done old s so_far right all = record {
+pub followed : (image : Places) (visit : Visit) (i : ℕ) (old s : BucketSearch) → IsFollowing image visit i old s → length (arcs_at image.out visit.place) ≤ i → Follows image visit old s
+followed image visit i old s so_far all = record {
   search = so_far.search;
   stage_is = so_far.stage_is;
-  relaxed = λ same k a at. ⊎_elim
-      (λ done. so_far.relaxed a done)
-      (λ long. following_long image visit Done Done old s so_far right k a at long.within long.light (let l = so_far.low a.other in let le = long.no_less in omega arith))
-      (all k a at);
-  low = so_far.low;
+  relaxed = λ same k a at. so_far.relaxed k a (let below = slice_get_within (arcs_at image.out visit.place) k a at in omega arith) at;
   visits_stay = so_far.visits_stay;
   no_more = so_far.no_more;
 }
-
--- all arcs of the place have those that are short
-pub all_short : (image : Places) (distances : List ℕ) (visit : Visit) (arcs : List Arc) (until : ℕ) → arcs ≡ arcs_at image.out visit.place → until ≡ length arcs → AreWithin (length image.vertices) arcs → HasShort image distances visit arcs 0 until
-all_short image distances visit arcs until same long within = record {
-  only = λ a among. (within among.0 a among.3, (among.0, ap (λ l. slice_get l among.0) (sym same) ∙ among.3));
-  all = λ k a at. (let here : slice_get arcs k ≡ Some a = ap (λ l. slice_get l k) same ∙ at in let below = slice_get_within arcs k a here in inl (k, omega arith, omega arith, here));
-}
-
--- a visit without a short arc needs none to be followed
-pub none_short : (image : Places) (visit : Visit) (arcs : List Arc) (from until : ℕ) (old : BucketSearch) → IsSearchOf image old → IsVisit (length image.vertices) old.stage.width old.stage.bucket visit → until ≤ from
-    → AreShort image old.distances.items visit arcs from until → Follows image visit old old
-none_short image visit arcs from until old is right empty short = record {
-  search = is;
-  stage_is = refl;
-  relaxed = λ same k a at. ⊎_elim
-      (λ gone. absurd (omega arith))
-      (λ (has : HasShort image old.distances.items visit arcs from until). ⊎_elim
-      (λ among. absurd (let x = among.1 in let y = among.2 in omega arith))
-      (λ long. following_long image visit (λ b. ⊥) (λ b. ⊥) old old (following_start image visit (λ b. ⊥) old is same (λ b no. no)) right k a at long.within long.light long.no_less)
-      (has.all k a at))
-      short;
-  low = λ p. omega arith;
-  visits_stay = λ k v at. at;
-  no_more = omega arith;
-}
-
--- one that counts has them
-pub short_counts : (image : Places) (distances : List ℕ) (visit : Visit) (arcs : List Arc) (from until : ℕ) → slice_index distances visit.place ≡ visit.distance → AreShort image distances visit arcs from until → HasShort image distances visit arcs from until
-short_counts image distances visit arcs from until same short = ⊎_elim (λ gone. absurd (omega arith)) (λ has. has) short
 
 -- a visit that doesn't count
 pub not_followed : (image : Places) (visit : Visit) (old : BucketSearch) → IsSearchOf image old → (slice_index old.distances.items visit.place ≡ visit.distance → ⊥) → Follows image visit old old
@@ -329,7 +279,6 @@ not_followed image visit old is other = record {
   search = is;
   stage_is = refl;
   relaxed = λ same. absurd (other same);
-  low = λ p. omega arith;
   visits_stay = λ k v at. at;
   no_more = omega arith;
 }
@@ -372,9 +321,6 @@ stepped image visit old mid at follows =
       };
       root_is = ap (λ (t : BucketStage). t.root) stage;
       bucket_is = ap (λ (t : BucketStage). t.bucket) stage;
-      made_is = ap (λ n. n + 1) made_is;
-      low = follows.low;
-      visits_stay = follows.visits_stay;
       nearer = (let m = follows.no_more in omega arith);
     }
 

@@ -12,7 +12,6 @@ use Rattle.kernel_sssp.specs.declared.buckets.Visit.{Visit}
 use Rattle.kernel_sssp.specs.declared.buckets.Buckets.{Buckets}
 use Rattle.kernel_sssp.specs.declared.search.BucketStage.{BucketStage}
 use Rattle.kernel_sssp.specs.declared.search.BucketSearch.{BucketSearch}
-use Rattle.kernel_sssp.specs.declared.lot.Lot.{Lot}
 use Rattle.kernel_sssp.specs.Buckets.{visits_in, Puts, TakesFirst}
 
 -- The distances are the weights of paths, and no greater than the number of reached places allows.
@@ -25,7 +24,12 @@ pub record AreWeights (image : Places) (root : ℕ) (distances : List ℕ) : Typ
   pub bound : (p : ℕ) → p < length image.vertices → (slice_index distances p ≡ UNREACHED → ⊥)
       → slice_index distances p + MAX_WEIGHT ≤ reached distances * MAX_WEIGHT
 
--- the arcs out of the place lead nowhere at a lesser distance than what is known
+-- the arcs out of the place, up to the n-th, lead nowhere at a lesser distance than what is known
+abbrev pub AreRelaxedTo : ℕ → Places → List ℕ → ℕ → Type 0
+AreRelaxedTo n image distances p = (k : ℕ) (a : Arc) → k < n → slice_get (arcs_at image.out p) k ≡ Some a
+    → IsRelaxed distances p a
+
+-- all of them
 abbrev pub AreRelaxed : Places → List ℕ → ℕ → Type 0
 AreRelaxed image distances p = (k : ℕ) (a : Arc) → slice_get (arcs_at image.out p) k ≡ Some a → IsRelaxed distances p a
 
@@ -97,7 +101,6 @@ pub record Follows (image : Places) (visit : Visit) (old new : BucketSearch) : T
   pub stage_is : new.stage ≡ old.stage
   pub relaxed : slice_index new.distances.items visit.place ≡ visit.distance
       → AreRelaxed image new.distances.items visit.place
-  pub low : (p : ℕ) → slice_index new.distances.items p ≤ slice_index old.distances.items p
   pub visits_stay : (k : ℕ) (v : Visit) → slice_get old.visits.items k ≡ Some v → slice_get new.visits.items k ≡ Some v
   pub no_more : spread new ≤ spread old
 
@@ -106,24 +109,7 @@ pub record Steps (image : Places) (old new : BucketSearch) : Type 0 where
   pub search : IsSearchOf image new
   pub root_is : new.stage.root ≡ old.stage.root
   pub bucket_is : new.stage.bucket ≡ old.stage.bucket
-  pub made_is : new.stage.made ≡ old.stage.made + 1
-  pub low : (p : ℕ) → slice_index new.distances.items p ≤ slice_index old.distances.items p
-  pub visits_stay : (k : ℕ) (v : Visit) → slice_get old.visits.items k ≡ Some v → slice_get new.visits.items k ≡ Some v
   pub nearer : spread new + old.stage.made < spread old + new.stage.made
-
--- some visits more are made, or none
-pub record Makes (image : Places) (old new : BucketSearch) : Type 0 where
-  pub search : IsSearchOf image new
-  pub root_is : new.stage.root ≡ old.stage.root
-  pub bucket_is : new.stage.bucket ≡ old.stage.bucket
-  pub low : (p : ℕ) → slice_index new.distances.items p ≤ slice_index old.distances.items p
-  pub visits_stay : (k : ℕ) (v : Visit) → slice_get old.visits.items k ≡ Some v → slice_get new.visits.items k ≡ Some v
-  pub no_farther : spread new + old.stage.made ≤ spread old + new.stage.made
-
--- and one at least is left
-pub record Leaps (image : Places) (old new : BucketSearch) : Type 0 where
-  pub makes : Makes image old new
-  pub left : new.stage.made < length new.visits.items
 
 -- all visits of the bucket are made
 pub record Settles (image : Places) (old new : BucketSearch) : Type 0 where
@@ -138,62 +124,3 @@ pub record Advances (old new : BucketSearch) : Type 0 where
   pub bucket_small : new.stage.bucket < 2 ^ 64
   pub distances_are : new.distances.items ≡ old.distances.items
   pub takes : TakesFirst new.stage.bucket new.visits.items old.later new.later
-
--- ---- arcs that several threads have looked at
-
--- the arc is one of those that stand from the one number on and before the other
-abbrev pub IsAmong : List Arc → ℕ → ℕ → Arc → Type 0
-IsAmong arcs from until a = (j : ℕ) × (from ≤ j) × (j < until) × (slice_get arcs j ≡ Some a)
-
--- the arc leads nowhere at a lesser distance
-pub record IsLong (n : ℕ) (distances : List ℕ) (visit : Visit) (a : Arc) : Type 0 where
-  pub within : a.other < n
-  pub light : a.weight ≤ MAX_WEIGHT
-  pub no_less : slice_index distances a.other ≤ visit.distance + a.weight
-
--- those that stand there are arcs of the visit's place, and the other ones are long
-pub record HasShort (image : Places) (distances : List ℕ) (visit : Visit) (arcs : List Arc) (from until : ℕ) : Type 0 where
-  pub only : (a : Arc) → IsAmong arcs from until a
-      → (a.other < length image.vertices) × ((k : ℕ) × (slice_get (arcs_at image.out visit.place) k ≡ Some a))
-  pub all : (k : ℕ) (a : Arc) → slice_get (arcs_at image.out visit.place) k ≡ Some a
-      → IsAmong arcs from until a ⊎ IsLong (length image.vertices) distances visit a
-
--- or the visit doesn't count any more
-abbrev pub AreShort : Places → List ℕ → Visit → List Arc → ℕ → ℕ → Type 0
-AreShort image distances visit arcs from until =
-    (slice_index distances visit.place < visit.distance) ⊎ HasShort image distances visit arcs from until
-
--- of the first n arcs those that aren't long came behind the others
-pub record Picks (places n from : ℕ) (distances : List ℕ) (arcs old new : List Arc) : Type 0 where
-  pub stay : (j : ℕ) (a : Arc) → slice_get old j ≡ Some a → slice_get new j ≡ Some a
-  pub more : length old ≤ length new
-  pub only : (a : Arc) → IsAmong new (length old) (length new) a → (k : ℕ) × (slice_get arcs k ≡ Some a)
-  pub all : (k : ℕ) (a : Arc) → k < n → slice_get arcs k ≡ Some a → IsAmong new (length old) (length new) a
-      ⊎ ((a.other < places) × (a.weight ≤ MAX_WEIGHT) × (slice_index distances a.other ≤ from + a.weight))
-
--- the short arcs of the visit came behind the others
-pub record Adds (image : Places) (distances : List ℕ) (visit : Visit) (old new : List Arc) : Type 0 where
-  pub stay : (j : ℕ) (a : Arc) → slice_get old j ≡ Some a → slice_get new j ≡ Some a
-  pub more : length old ≤ length new
-  pub short : AreShort image distances visit new (length old) (length new)
-
--- the lot has one visit more
-pub record Looks (image : Places) (distances : List ℕ) (visit : Visit) (old new : Lot) : Type 0 where
-  pub adds : Adds image distances visit old.arcs.items new.arcs.items
-  pub starts_are : new.starts.items ≡ old.starts.items ++ length new.arcs.items ∷ []
-  pub first_is : new.first ≡ old.first
-
--- the lot has the short arcs of its visits, which follow each other; at least one visit comes behind them
-pub record IsLot (image : Places) (distances : List ℕ) (visits : List Visit) (lot : Lot) : Type 0 where
-  pub within : lot.first + length lot.starts.items ≤ length visits
-  pub ends : (j : ℕ) → j < length lot.starts.items → slice_index lot.starts.items j ≤ length lot.arcs.items
-  pub each : (j : ℕ) (v : Visit) → j + 1 < length lot.starts.items → slice_get visits (lot.first + j) ≡ Some v
-      → AreShort image distances v lot.arcs.items (slice_index lot.starts.items j) (slice_index lot.starts.items (j + 1))
-
--- so has each of these
-abbrev pub AreLots : Places → List ℕ → List Visit → List Lot → Type 0
-AreLots image distances visits lots = (i : ℕ) (lot : Lot) → slice_get lots i ≡ Some lot → IsLot image distances visits lot
-
--- the places of the visits are among the first n
-abbrev pub ArePlaced : ℕ → List Visit → Type 0
-ArePlaced n visits = (k : ℕ) (v : Visit) → slice_get visits k ≡ Some v → v.place < n

@@ -9,7 +9,7 @@
 //!    reads are made twice or not at all, which costs time alone. No clause speaks of either.
 
 use crate::buckets::Visit;
-use graph_image::{Arc, Image};
+use graph_image::Image;
 
 /// For how many visits at a time it reads: what these read stays in the nearest caches meanwhile.
 pub const AHEAD: usize = 32;
@@ -76,19 +76,13 @@ fn sum_of_distances(image: &Image, distances: &[u64], places: &[u32]) -> u64 {
     'places: for i in 0..places.len() {
         let place = places[i] as usize;
         if place < image.len() {
-            sum = sum.wrapping_add(sum_along(distances, image.out(place)));
-        }
-    }
-    sum
-}
-
-/// The sum of the distances to which the arcs lead.
-pub fn sum_along(distances: &[u64], arcs: &[Arc]) -> u64 {
-    let mut sum = 0u64;
-    'arcs: for k in 0..arcs.len() {
-        let other = arcs[k].other as usize;
-        if other < distances.len() {
-            sum = sum.wrapping_add(distances[other]);
+            let arcs = image.out(place);
+            'arcs: for k in 0..arcs.len() {
+                let other = arcs[k].other as usize;
+                if other < distances.len() {
+                    sum = sum.wrapping_add(distances[other]);
+                }
+            }
         }
     }
     sum

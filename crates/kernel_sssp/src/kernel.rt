@@ -12,19 +12,11 @@ ghost use Rattle.graph_image.specs.Images.{IsImageOf};
 ghost use Rattle.kernel_sssp.specs.Distances.{LinkOut, IsSearched};
 
 use crate::distances::table_by;
-use crate::lot::Lot;
 use crate::search::BucketSearch;
 use crate::width::width_for;
 use graph_image::{Image, KernelRefusal, NoMemory, Table};
-use rayon::current_num_threads;
 use std::alloc::Global;
 use std::thread::Threads;
-
-/// An image of fewer places isn't worth a thread.
-const SMALL: usize = 16384;
-
-/// More threads than these share the visits no better.
-const MOST_THREADS: usize = 32;
 
 /// The least weight of a walk from the root to each vertex, in rising order of vertex, or infinity where
 /// no walk leads (LDBC Graphalytics, SSSP). No clause speaks of running out of memory.
@@ -44,7 +36,7 @@ pub fn run<R: Threads + Sync>(
 
 /// The same by buckets of this width, for whoever knows the graph better. No clause speaks of running out of memory.
 pub fn run_by_width<R: Threads + Sync>(
-    rt: &R,
+    _rt: &R,
     alloc: Global,
     image: &Image,
     root: u64,
@@ -59,14 +51,13 @@ pub fn run_by_width<R: Threads + Sync>(
     let Some(place) = image.position(root) else {
         return Err(KernelRefusal::NoRoot);
     };
-    let distances = least_weights(rt, alloc, image, place, width)?;
+    let distances = least_weights(alloc, image, place, width)?;
     let table = table_by(alloc, image, distances.as_slice())?;
     Ok(table)
 }
 
 /// The least weight of a path from the root to each place.
-fn least_weights<R: Threads + Sync>(
-    rt: &R,
+fn least_weights(
     alloc: Global,
     image: &Image,
     root: usize,
@@ -78,10 +69,9 @@ fn least_weights<R: Threads + Sync>(
         IsSearched (LinkOut image.now) root (length image.now.vertices) distances.items) }
 {
     let mut search = BucketSearch::new(alloc, image.len(), root, width)?;
-    let mut lots = lots_for(rt, alloc, image.len())?;
     'buckets: loop {
         // All visits of the bucket at hand, those that come while it is made among them.
-        search.settle(rt, image, lots.as_mut_slice())?;
+        search.settle(image)?;
         if !search.advance() {
             let BucketSearch {
                 stage: _,
@@ -93,18 +83,4 @@ fn least_weights<R: Threads + Sync>(
             return Ok(distances);
         }
     }
-}
-
-/// Two lots for each thread; none where there is one thread, or the image is small.
-fn lots_for<R: Threads>(rt: &R, alloc: Global, places: usize) -> Result<Vec<Lot>, NoMemory> {
-    let threads = current_num_threads(rt).min(MOST_THREADS);
-    let mut lots = Vec::new(alloc);
-    if places >= SMALL && threads > 1 {
-        // A thread fills its first lot while its neighbour fills its own first one: these two don't lie side by side, so
-        // no line of a cache is written by both.
-        'lots: for _lot in 0..threads * 2 {
-            lots.push(Lot::new(alloc))?;
-        }
-    }
-    Ok(lots)
 }

@@ -5,16 +5,13 @@
 //!    buckets in use are kept, in an ordered map.
 //! 2. One bucket at a time is settled: the arcs out of each place of it are followed, which may put places
 //!    into it again.
-//! 3. Where a bucket has many visits, several threads look first which of their arcs are worth following; the visits are
-//!    made on one thread. Meyer and Sanders follow them on all, which needs distances that threads share.
-//! 4. The arcs out of each place below the bucket at hand lead nowhere at a lesser distance than what is known.
+//! 3. The arcs out of each place below the bucket at hand lead nowhere at a lesser distance than what is known.
 #![tactic(auto)]
 
 mod ahead;
 mod buckets;
 mod distances;
 mod kernel;
-mod lot;
 mod search;
 mod width;
 

@@ -6,22 +6,16 @@
 //!    round.
 //! 3. What a visit reads of memory is read ahead for those that come next, which changes nothing.
 
-ghost use Rattle.std.specs.Prelude.{◌≡◌, ◌<◌, ◌≤◌, ◌^◌, false, length, slice_get, Some, IsTrue, IfOk, OnOk};
+ghost use Rattle.std.specs.Prelude.{◌≡◌, ◌<◌, ◌^◌, false, length, slice_get, Some, IsTrue, IfOk, OnOk};
 ghost use Rattle.kernel_sssp.specs.Search.{IsSearchOf, IsVisit, IsStart, IsLowered};
-ghost use Rattle.kernel_sssp.specs.Search.{Follows, Steps, Makes, Leaps, Settles, Advances, spread};
-ghost use Rattle.kernel_sssp.specs.Search.{HasShort, AreShort, IsLot};
+ghost use Rattle.kernel_sssp.specs.Search.{Follows, Steps, Settles, Advances, spread};
 ghost use Rattle.kernel_sssp.specs.Buckets.{HasNone};
 
-use crate::ahead::{AHEAD, Ahead, FEW, sum_ahead, sum_along};
+use crate::ahead::{AHEAD, Ahead, FEW, sum_ahead};
 use crate::buckets::{Buckets, Visit};
 use crate::distances::UNREACHED;
-use crate::lot::{Lot, fill_each};
 use graph_image::{Arc, Image, NoMemory};
 use std::alloc::Global;
-use std::thread::Threads;
-
-/// Fewer visits aren't worth a thread.
-const MANY: usize = 1024;
 
 /// How far the search has come.
 #[derive(Clone, Copy)]
@@ -86,114 +80,13 @@ impl BucketSearch {
     }
 
     /// Settles the bucket: all arcs out of its places are followed.
-    pub fn settle<R: Threads + Sync>(
-        &mut self,
-        rt: &R,
-        image: &Image,
-        lots: &mut [Lot],
-    ) -> Result<(), NoMemory>
+    pub fn settle(&mut self, image: &Image) -> Result<(), NoMemory>
         requires { IsSearchOf image.now self.old }
         ensures { OnOk result (Settles image.now self.old self.new) }
     {
         'visits: while self.stage.made < self.visits.len() {
-            self.leap(rt, image, lots)?;
             self.read_ahead(image);
             self.step(image)?;
-        }
-        Ok(())
-    }
-
-    /// Where many visits are left, lets several threads look at all but the last, and makes these.
-    fn leap<R: Threads + Sync>(
-        &mut self,
-        rt: &R,
-        image: &Image,
-        lots: &mut [Lot],
-    ) -> Result<(), NoMemory>
-        requires search { IsSearchOf image.now self.old }
-        requires left { self.old.stage.made < length self.old.visits.items }
-        ensures { OnOk result (Leaps image.now self.old self.new) }
-    {
-        if lots.is_empty() || self.visits.len() - self.stage.made < MANY {
-            return Ok(());
-        }
-        fill_each(
-            rt,
-            image,
-            self.distances.as_slice(),
-            self.visits.as_slice(),
-            self.stage.made,
-            lots,
-        );
-        'lots: for i in 0..lots.len() {
-            self.make(image, &lots[i])?;
-        }
-        Ok(())
-    }
-
-    /// Makes the visits of a lot, if they come next.
-    fn make(&mut self, image: &Image, lot: &Lot) -> Result<(), NoMemory>
-        requires search { IsSearchOf image.now self.old }
-        requires left { self.old.stage.made < length self.old.visits.items }
-        requires lot { IsLot image.now self.old.distances.items self.old.visits.items lot.now }
-        ensures { OnOk result (Leaps image.now self.old self.new) }
-    {
-        // They don't where the lot before had no memory.
-        if lot.first != self.stage.made {
-            return Ok(());
-        }
-        let arcs = lot.arcs.as_slice();
-        // Threads have these distances in their caches, and this one needs them in its own.
-        let sum = sum_along(self.distances.as_slice(), arcs);
-        self.ahead.sum = self.ahead.sum.wrapping_add(sum);
-        'visits: for j in 1..lot.starts.len() {
-            self.make_next(image, arcs, lot.starts[j - 1], lot.starts[j])?;
-        }
-        Ok(())
-    }
-
-    /// Makes the next visit along these short arcs of it.
-    fn make_next(
-        &mut self,
-        image: &Image,
-        arcs: &[Arc],
-        from: usize,
-        until: usize,
-    ) -> Result<(), NoMemory>
-        requires search { IsSearchOf image.now self.old }
-        requires left { self.old.stage.made < length self.old.visits.items }
-        requires arcs { until ≤ length arcs.now }
-        requires short { (v : Visit) → slice_get self.old.visits.items self.old.stage.made ≡ Some v
-            → AreShort image.now self.old.distances.items v arcs.now from until }
-        ensures { OnOk result (Steps image.now self.old self.new) }
-    {
-        let visit = self.visits[self.stage.made];
-        self.visit_short(image, visit, arcs, from, until)?;
-        self.stage.made += 1;
-        Ok(())
-    }
-
-    /// Follows the short arcs of a visit, if it still counts.
-    fn visit_short(
-        &mut self,
-        image: &Image,
-        visit: Visit,
-        arcs: &[Arc],
-        from: usize,
-        until: usize,
-    ) -> Result<(), NoMemory>
-        requires search { IsSearchOf image.now self.old }
-        requires visit { IsVisit (length image.now.vertices) self.old.stage.width self.old.stage.bucket visit }
-        requires arcs { until ≤ length arcs.now }
-        requires short { AreShort image.now self.old.distances.items visit arcs.now from until }
-        ensures { OnOk result (Follows image.now visit self.old self.new) }
-    {
-        // Without an arc its place needn't be looked at.
-        if from >= until {
-            return Ok(());
-        }
-        if self.distances[visit.place as usize] == visit.distance {
-            self.follow(image, visit, arcs, from, until)?;
         }
         Ok(())
     }
@@ -254,30 +147,20 @@ impl BucketSearch {
         ensures { OnOk result (Follows image.now visit self.old self.new) }
     {
         if self.distances[visit.place as usize] == visit.distance {
-            let arcs = image.out(visit.place as usize);
-            self.follow(image, visit, arcs, 0, arcs.len())?;
+            self.follow(image, visit)?;
         }
         Ok(())
     }
 
-    /// Follows arcs out of a place, those from one number on and before another. The other ones lead nowhere at a
-    /// lesser distance.
-    fn follow(
-        &mut self,
-        _image: &Image,
-        visit: Visit,
-        arcs: &[Arc],
-        from: usize,
-        until: usize,
-    ) -> Result<(), NoMemory>
-        requires search { IsSearchOf _image.now self.old }
-        requires visit { IsVisit (length _image.now.vertices) self.old.stage.width self.old.stage.bucket visit }
+    /// Follows the arcs out of a place.
+    fn follow(&mut self, image: &Image, visit: Visit) -> Result<(), NoMemory>
+        requires search { IsSearchOf image.now self.old }
+        requires visit { IsVisit (length image.now.vertices) self.old.stage.width self.old.stage.bucket visit }
         requires here { slice_get self.old.distances.items visit.place ≡ Some visit.distance }
-        requires arcs { until ≤ length arcs.now }
-        requires short { HasShort _image.now self.old.distances.items visit arcs.now from until }
-        ensures { OnOk result (Follows _image.now visit self.old self.new) }
+        ensures { OnOk result (Follows image.now visit self.old self.new) }
     {
-        'arcs: for i in from..until {
+        let arcs = image.out(visit.place as usize);
+        'arcs: for i in 0..arcs.len() {
             let Arc { other, weight } = arcs[i];
             let distance = visit.distance + weight as u64;
             if distance < self.distances[other as usize] {

@@ -4,7 +4,7 @@ use Rattle.kernel_sssp.specs.Search.{IsSearchOf}
 use Rattle.kernel_sssp.proofs.kernel.least_weights.Given as goal
 
 abbrev pub invariant-buckets : goal.invariant-buckets
-invariant-buckets g l = IsSearchOf l.image l.search × (l.search.stage.root ≡ l.root)
+invariant-buckets l = IsSearchOf l.image l.search × (l.search.stage.root ≡ l.root)
 
 abbrev pub decreases-buckets : goal.decreases-buckets
-decreases-buckets g l = 18446744073709551616 - l.search.stage.bucket
+decreases-buckets l = 18446744073709551616 - l.search.stage.bucket

@@ -4,7 +4,7 @@ use Rattle.kernel_sssp.specs.Search.{IsSearchOf, spread}
 use Rattle.kernel_sssp.proofs.search.BucketSearch.settle.Given as goal
 
 abbrev pub invariant-visits : goal.invariant-visits
-invariant-visits g l = IsSearchOf l.image l.self × (l.self.stage.root ≡ l.fn.self.stage.root) × (l.self.stage.bucket ≡ l.fn.self.stage.bucket)
+invariant-visits l = IsSearchOf l.image l.self × (l.self.stage.root ≡ l.fn.self.stage.root) × (l.self.stage.bucket ≡ l.fn.self.stage.bucket)
 
 abbrev pub decreases-visits : goal.decreases-visits
-decreases-visits g l = spread l.self - l.self.stage.made
+decreases-visits l = spread l.self - l.self.stage.made
