@@ -1,12 +1,25 @@
-use Rattle.std.proofs.Common.{ℕ, ◌∙◌, ap, subst}
+use Rattle.std.proofs.Common.{◌≡◌, ℕ, ◌∙◌, ap, subst, sym}
 use Rattle.std.specs.Prelude.{Err}
+use Rattle.pass_prunes.specs.RowWrites.Checks.{TellsEdges}
 use Rattle.pass_prunes.specs.StoreRelation.Passes.{PassState}
 use Rattle.pass_prunes.specs.PassSteps.Passes.{state_of}
-use Rattle.pass_writes.specs.Found.{Finds}
+use Rattle.pass_writes.specs.Found.{Finds, view_of}
 use Rattle.pass_writes.specs.Making.{after_refusal}
 use Rattle.pass_writes.proofs.MakeLemmas.{few, lays, new_hand, new_state}
-use Rattle.pass_writes.proofs.StateLemmas.{refused_makes}
+use Rattle.pass_writes.proofs.StateLemmas.{learnt_steps, refused_makes}
 use Rattle.pass_writes.proofs.making.write_in_hand.Goals as goal
+
+pub check-requires-clause-hand : goal.check-requires-clause-hand
+check-requires-clause-hand c =
+    (learnt_steps c.args.store.now c.args.pass.now c.learn-clock.new.pass c.args.cells.now.taken.list.items
+    c.requires.hand c.learn-clock.ensures.same).hand
+
+pub check-requires-clause-edges : goal.check-requires-clause-edges
+check-requires-clause-edges c =
+    let steps = learnt_steps c.args.store.now c.args.pass.now c.learn-clock.new.pass
+    c.args.cells.now.taken.list.items c.requires.hand c.learn-clock.ensures.same in
+    subst (λ (st : PassState). TellsEdges (λ x answer. answer ≡ c.args.has_edges)
+    (view_of c.args.store.now.accounts.config.kind st) c.args.write) (sym steps.state) c.requires.edges
 
 pub lay-requires-clause-may : goal.lay-requires-clause-may
 lay-requires-clause-may c =
