@@ -104,12 +104,7 @@ fn sweep(
 }
 
 /// Prunes the next leaf, and answers what was swept.
-fn sweep_here(
-    rt: &impl Wait,
-    store: &Store,
-    pass: &mut Pass,
-    key: &mut SweepKey,
-) -> LeafSwept
+fn sweep_here(rt: &impl Wait, store: &Store, pass: &mut Pass, key: &mut SweepKey) -> LeafSwept
     requires ready { ∥ IsReady store.now pass.old ∥₁ }
     ensures ready { ∥ IsReady store.now pass.new ∥₁ }
     ensures legal { HasSeenLegal (account_of store.now pass.new) }
