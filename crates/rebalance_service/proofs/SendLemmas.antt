@@ -9,15 +9,15 @@ use Rattle.std.proofs.marker.PhantomData.TheSendSync as phantom
 use Rattle.std.proofs.option.Option.TheSendSync as option
 use Rattle.latch_table.proofs.cells.Held.TheSendSync as held
 use Rattle.latch_table.proofs.cells.Laid.TheSendSync as laid
-use Rattle.shared_store.proofs.LeafArrayMade.Leaf.TheSendSync as leaf
+use Rattle.reader_parts.proofs.LeafArrayMade.Leaf.TheSendSync as leaf
 use Rattle.pass_room.proofs.PassCellsMade.TakenCell.TheSendSync as cell
 use Rattle.rebalance_service.proofs.scan_place.ScanPlace.TheSendSync as place
 use Rattle.rebalance_service.proofs.serve.ServiceKeys.TheSendSync as keys
 use Rattle.rebalance_service.proofs.settled.SettledLeaves.TheSendSync as settled
-use Rattle.shared_store.proofs.SendLemmas.{pass_send, slot_send, store_sync}
+use Rattle.reader_parts.proofs.SharedStore.SendLemmas.{pass_send, slot_send, store_sync}
 use Rattle.pass_merges.specs.PassLeavesContracts.own.PassLeaves as Leaves
 use Rattle.pass_room.specs.contracts.own.PassRoom as Room
-use Rattle.optimistic_read.specs.StoreRuleContracts.store.Store as Store
+use Rattle.reader_parts.specs.StoreRuleContracts.store.Store as Store
 use Rattle.rebalance_service.specs.declared.worker.Home.{Ghosts}
 use Rattle.rebalance_service.specs.contracts.worker.Worker as Worker
 

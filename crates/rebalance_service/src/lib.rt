@@ -11,6 +11,10 @@ pub mod below;
 mod calls;
 mod engine;
 mod idle;
+mod idle_passes;
+mod one_list;
+mod parts;
+mod readers;
 mod reads;
 mod room;
 mod scan_place;
@@ -20,4 +24,5 @@ mod settled;
 mod worker;
 mod writes;
 
+pub use idle_passes::IdlePasses;
 pub use worker::{Home, Worker};
