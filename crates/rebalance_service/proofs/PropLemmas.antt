@@ -19,8 +19,9 @@ use Rattle.graph_model.specs.contracts.journal.Commit as commit
 use Rattle.graph_model.specs.contracts.journal.TxnName as name
 use Rattle.graph_model.specs.contracts.refusal.Refusal as refusal
 use Rattle.graph_model.specs.contracts.row.Key as key
+use Rattle.graph_model.specs.contracts.write.Kind as kind
 use Rattle.graph_model.specs.contracts.write.Write as write
-use Rattle.graph_model.specs.Account.{Account, IsOpenTxn, IsValid}
+use Rattle.graph_model.specs.Account.{Account, Sighting, IsOpenTxn, IsValid}
 use Rattle.graph_model.specs.Graph.{Graph, apply}
 use Rattle.graph_model.specs.Legal.{IsLegal}
 use Rattle.graph_model.specs.Refused.{AllAllowed, IsWithinLimits}
@@ -58,6 +59,15 @@ key_set = Coded-set key.the_row.coded
 
 write_set : IsSet Write
 write_set = Coded-set write.the_row.coded
+
+kind_set : IsSet Kind
+kind_set = Coded-set kind.the_row.coded
+
+sighting_set : IsSet Sighting
+sighting_set = hlevel (props, name_set, write_set)
+
+pub account_set : IsSet Account
+account_set = hlevel (props, kind_set, commit_set, write_set, sighting_set)
 
 sweep_set : IsSet Sweep
 sweep_set = Coded-set sweep.the_row.coded

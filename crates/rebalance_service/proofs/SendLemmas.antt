@@ -19,6 +19,8 @@ use Rattle.pass_merges.specs.PassLeavesContracts.own.PassLeaves as Leaves
 use Rattle.pass_room.specs.contracts.own.PassRoom as Room
 use Rattle.reader_parts.specs.StoreRuleContracts.store.Store as Store
 use Rattle.rebalance_service.specs.declared.worker.Home.{Ghosts}
+use Rattle.rebalance_service.specs.contracts.idle_passes.IdlePasses as Idle
+use Rattle.rebalance_service.specs.contracts.readers.Readers as Readers
 use Rattle.rebalance_service.specs.contracts.worker.Worker as Worker
 
 -- what it keeps for rows that move
@@ -30,6 +32,10 @@ room_field_send = search (sendable, crosses, leaves_send, leaf.the_field_send) d
 
 room_send : IsSend Room.the_row
 room_send = recorded_send Room.the_field.row _ _ Room.the_type.to_one room_field_send
+
+-- the passes that it shares
+idle_send : (H : RattleType) (h : Ghosts H.Denot) → IsSend (Idle.the_row H h)
+idle_send H h = declared_send (Idle.the_type H h) (search (sendable, crosses, pass_send) depth 60 fits 100000, (phantom.the_send H, tt))
 
 -- in the order of its fields
 pub worker_send : (a : NamedLft) (R H : RattleType) (h : Ghosts H.Denot) → IsSync R → IsSend (Worker.the_row a R H h)
@@ -51,8 +57,11 @@ worker_send a R H h shared =
                   (
                     keys.the_send,
                     (
-                      phantom.the_send H,
-                      tt,
+                      option.the_send _ ?,
+                      (
+                        phantom.the_send H,
+                        tt,
+                      ),
                     ),
                   ),
                 ),

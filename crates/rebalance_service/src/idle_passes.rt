@@ -3,7 +3,7 @@
 //! 1. They are made readers of an open transaction for as long as one scan takes, and have no transaction between two
 //!    scans. So they never make a commit, and come back with the accounts with which they came.
 
-ghost use Rattle.std.specs.Prelude.{◌≡◌, ◌<◌, ◌≤◌, Some, IfOk, length};
+ghost use Rattle.std.specs.Prelude.{◌≡◌, ◌<◌, ◌≤◌, true, Some, IfOk, length};
 ghost use Rattle.graph_model.specs.Rows.{all_rows};
 ghost use Rattle.part_scan.specs.Parts.{rows_in};
 ghost use Rattle.reader_parts.specs.SharedStore.Passes.{IsOpen, KeepsOpen, view_in};

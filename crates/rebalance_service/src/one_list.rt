@@ -78,7 +78,7 @@ pub(crate) fn filled_up(
 ) -> Result<RowLists, NoMemory>
     requires few { length lists ≤ count }
     ensures count { IfOk result (λ new. length new ≡ count) }
-    ensures rows { IfOk result (λ new. rows_in new ≡ rows_in lists.entry) }
+    ensures rows { IfOk result (λ new. rows_in new ≡ rows_in lists) }
 {
     'lists: while lists.len() < count as usize {
         lists.push(RowList::new(alloc))?;

@@ -46,6 +46,23 @@ fn scan_by<R: Threads + Wait + Sync, H: Home>(
     ensures rows { IfOk result (λ lists. (start : ℕ) → (account_of store.now pass.old).start ≡ Some start
         → rows_in lists ≡ all_rows (view_of (account_of store.now pass.old) start)) }
 {
+    lists_by(readers, store, pass, parts)
+}
+
+/// So many lists, of which the readers give some.
+fn lists_by<R: Threads + Wait + Sync, H: Home>(
+    readers: &Readers<'_, R, H>,
+    store: &Store,
+    pass: &mut Pass,
+    parts: u32,
+) -> Result<RowLists, NoMemory>
+    requires home { H.home ≡ Some store.now }
+    requires opened { IsOpen store.now pass.old }
+    requires some { 0 < parts }
+    ensures kept { KeepsOpen store.now pass.old pass.new }
+    ensures count { IfOk result (λ lists. length lists ≡ parts) }
+    ensures rows { IfOk result (λ lists. rows_in lists ≡ all_rows (view_in store.now pass.old)) }
+{
     let alloc = pass.alloc;
     let lists = readers.read(store, pass, parts)?;
     filled_up(alloc, lists, parts)
@@ -67,6 +84,22 @@ fn scan_alone(
     ensures count { IfOk result (λ lists. length lists ≡ parts) }
     ensures rows { IfOk result (λ lists. (start : ℕ) → (account_of store.now pass.old).start ≡ Some start
         → rows_in lists ≡ all_rows (view_of (account_of store.now pass.old) start)) }
+{
+    lists_alone(rt, store, pass, parts)
+}
+
+/// So many lists, of which the first one has all rows.
+fn lists_alone(
+    rt: &impl Wait,
+    store: &Store,
+    pass: &mut Pass,
+    parts: u32,
+) -> Result<RowLists, NoMemory>
+    requires opened { IsOpen store.now pass.old }
+    requires some { 0 < parts }
+    ensures kept { KeepsOpen store.now pass.old pass.new }
+    ensures count { IfOk result (λ lists. length lists ≡ parts) }
+    ensures rows { IfOk result (λ lists. rows_in lists ≡ all_rows (view_in store.now pass.old)) }
 {
     let alloc = pass.alloc;
     let lists = read_alone(rt, store, pass)?;
