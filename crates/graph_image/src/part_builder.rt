@@ -7,6 +7,7 @@ ghost use Rattle.std.specs.Prelude.{◌≡◌, [], ◌++◌, IfOk, OnErr, OnOk};
 ghost use Rattle.graph_model.specs.declared.write.Kind.TheVariants.{Undirected};
 ghost use Rattle.graph_model.specs.Graph.{Graph, IsSymmetric};
 ghost use Rattle.graph_model.specs.Rows.{AreRowsOf};
+ghost use Rattle.part_scan.specs.Parts.{rows_in};
 ghost use Rattle.graph_image.specs.Images.{IsImageOf};
 ghost use Rattle.graph_image.specs.Building.{AreStorable, AreEnded};
 
@@ -14,7 +15,7 @@ use crate::image::Image;
 use crate::parted::{out_of, with_arcs_in};
 use graph_model::{Kind, NoMemory, Row};
 use items::RoomyItems;
-use part_scan::RowList;
+use part_scan::{RowList, RowLists};
 use std::alloc::Global;
 use std::marker::Model;
 use std::mem::replace;
@@ -54,6 +55,18 @@ impl PartBuilder {
         PartBuilder {
             alloc,
             full: RoomyItems::new(alloc),
+            last: RoomyItems::new(alloc),
+        }
+    }
+
+    /// The rows of these lists, one behind the other, each list a part. Takes no memory.
+    pub fn of_lists(alloc: Global, lists: RowLists) -> PartBuilder
+        requires { AreStorable (rows_in lists) }
+        ensures { result ≡ rows_in lists }
+    {
+        PartBuilder {
+            alloc,
+            full: RoomyItems::from_items(lists),
             last: RoomyItems::new(alloc),
         }
     }

@@ -3,11 +3,12 @@
 //! 1. A round along the arcs out of places goes through a list of them; one along the arcs into places wants only to know
 //!    how many they are, and so large a list costs more than that round. So places are listed only where they are few.
 
-ghost use Rattle.std.specs.Prelude.{◌≡◌, ◌==◌, ◌<◌, ◌^◌, length, OnOk};
+ghost use Rattle.std.specs.Prelude.{◌≡◌, ◌==◌, ◌<◌, ◌^◌, [], ◌∷◌, length, IfOk, OnOk};
 ghost use Rattle.kernel_bfs.specs.Levels.{IsFrontier};
 ghost use Rattle.kernel_bfs.specs.Frontiers.{places_at};
 
 use graph_image::NoMemory;
+use std::alloc::Global;
 
 /// The places at a level.
 #[derive(Drop)]
@@ -19,6 +20,22 @@ pub struct Frontier {
 }
 
 impl Frontier {
+    /// This place alone, with room for so many.
+    pub fn of(alloc: Global, place: u32, room: usize) -> Result<Frontier, NoMemory>
+        ensures count { IfOk result (λ frontier. frontier.count ≡ 1) }
+        ensures places { IfOk result (λ frontier. frontier.places.items ≡ place ∷ []) }
+    {
+        let mut places = Vec::with_capacity(alloc, room)?;
+        places.push(place)?;
+        Ok(Frontier { count: 1, places })
+    }
+
+    /// No place, with room for so many.
+    pub fn none(alloc: Global, room: usize) -> Result<Frontier, NoMemory> {
+        let places = Vec::with_capacity(alloc, room)?;
+        Ok(Frontier { count: 0, places })
+    }
+
     /// Whether no place is at the level.
     pub fn is_empty(&self) -> bool
         ensures { result ≡ (self.now.count == 0) }

@@ -43,21 +43,12 @@ pub fn search<R: Threads + Sync>(
 {
     let count = image.len();
     let mut distances = vec![in alloc; UNREACHED; count]?;
-    // Each list has room for all places from the start, so no round takes memory for it.
-    let mut first = Vec::with_capacity(alloc, count)?;
-    let later = Vec::with_capacity(alloc, count)?;
+    distances[root] = 0;
+    // Each has room for all places from the start, so no round takes memory for it.
+    let mut frontier = Frontier::of(alloc, root as u32, count)?;
+    let mut next = Frontier::none(alloc, count)?;
     // Made once: a round along the arcs into places fills it with its frontier.
     let mut set = PlaceSet::new(alloc, count)?;
-    distances[root] = 0;
-    first.push(root as u32)?;
-    let mut frontier = Frontier {
-        count: 1,
-        places: first,
-    };
-    let mut next = Frontier {
-        count: 0,
-        places: later,
-    };
     'levels: for level in 0..count as u32 - 1 {
         round(
             rt,

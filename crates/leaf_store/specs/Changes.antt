@@ -1,5 +1,5 @@
 -- What the calls do to the leaves of a store.
-use Rattle.std.specs.Prelude.{◌≡◌, ◌⊎◌, ℕ, ◌+◌, ◌-◌, ◌*◌, ◌≤◌, true, false, cond, List, [], ◌∷◌, length, Option, Some, None, slice_get}
+use Rattle.std.specs.Prelude.{◌≡◌, ◌⊎◌, ℕ, ◌+◌, ◌-◌, ◌*◌, ◌<◌, ◌≤◌, true, false, cond, List, [], ◌∷◌, length, Option, Some, None, slice_get}
 use Rattle.std.specs.Ordering.{eq_by_cmp}
 use Rattle.graph_model.specs.declared.limits.TheConstants.{SPLIT_ROWS}
 use Rattle.graph_model.specs.declared.row.Key.{Key}
@@ -79,6 +79,13 @@ pub record IsFull (s : Leaves) (key : Key) (need : ℕ) : Type 0 where
   pub holds : slice_get part.segments segment ≡ Some (cell_at s key)
   pub windows : IsSmallestWindow (Fits (counts_of part.segments) need) segment None
   pub free : s.free ≡ []
+
+-- the key's cell has too little room for so many rows, one or two
+pub record NeedsRoom (s : Leaves) (key : Key) (need : ℕ) : Type 0 where
+  pub within : is_below key end_key ≡ true
+  pub some : 1 ≤ need
+  pub few : need ≤ 2
+  pub short : room_at s key < need
 
 -- why no room was made, and what that left
 abbrev pub IsRoomRefusal : Leaves → Key → ℕ → RoomRefusal → Leaves → Type 0

@@ -5,6 +5,7 @@ pub mod Fill
 pub mod Changes
 pub mod Merging
 pub mod Making
+pub mod Moving
 pub mod Pairs
 pub mod Queued
 pub mod LeafArray

@@ -7,9 +7,10 @@ ghost use Rattle.std.specs.Prelude.{◌≡◌, ◌+◌, ◌*◌, ◌<◌, ◌≤
 ghost use Rattle.std.specs.List.{AllByRecursion};
 ghost use Rattle.leaf_table.specs.VersionSegment.Rows.{IsSegment};
 ghost use Rattle.leaf_table.specs.LeafArray.Leaves.{IsLeaf};
-ghost use Rattle.leaf_table.specs.LeafArray.Segments.{AreSame, records_of, rows_of};
+ghost use Rattle.leaf_table.specs.LeafArray.Segments.{records_of, rows_of};
 ghost use Rattle.leaf_store.specs.Leaves.{record_count};
 ghost use Rattle.leaf_store.specs.Merging.{Compacts, KeepsParts};
+ghost use Rattle.leaf_store.specs.Moving.{KeepsTwo};
 ghost use Rattle.leaf_store.specs.Pairs.{AreNeighbours, IsApartBehind, IsFirstFoundPair, IsPairBehind, IsRangeIn, MergesEntries, MergesLeaf};
 ghost use Rattle.leaf_store.specs.Table.{IsKept, leaves_of, segments_at};
 
@@ -100,9 +101,8 @@ fn merge_entries(
     ensures ok { OnOk result ((live : AreNeighbours index.old.entries left.old.segments right.old.segments number)
         → MergesEntries stamp number index.old index.new left.old.segments right.old.segments left.new.segments live) }
     ensures sound { OnOk result (AllByRecursion IsSegment left.new.segments) }
-    ensures err { OnErr result (index.new ≡ index.old) }
-    ensures left { OnErr result (AreSame left.old.segments left.new.segments) }
-    ensures right { OnErr result (AreSame right.old.segments right.new.segments) }
+    ensures err { OnErr result
+        (KeepsTwo index.old index.new left.old.segments left.new.segments right.old.segments right.new.segments) }
     ensures settled { records_of left.old.segments ≡ 0 → records_of right.old.segments ≡ 0 → IsOk result }
 {
     let low = left.segments[0].low();

@@ -2,19 +2,17 @@
 //!
 //! 1. The leaves that are left wait to be looked at.
 
-ghost use Rattle.std.specs.Prelude.{◌≡◌, ◌<◌, ◌≤◌, ◌*◌, true, length, IfErr, IfSome, IsOk, OnErr, OnOk};
-ghost use Rattle.graph_model.specs.declared.row.Key.{Key};
-ghost use Rattle.graph_model.specs.Rows.{is_below, end_key};
+ghost use Rattle.std.specs.Prelude.{◌≡◌, ◌<◌, ◌≤◌, IfErr, IfSome, IsOk, OnErr, OnOk};
 ghost use Rattle.density_tree.specs.Windows.{IsRound};
-ghost use Rattle.leaf_table.specs.LeafArray.Leaves.{IsLeaf, IsWindow, window_of};
-ghost use Rattle.leaf_table.specs.LeafArray.Segments.{rows_of};
+ghost use Rattle.leaf_table.specs.LeafArray.Leaves.{IsLeaf};
 ghost use Rattle.leaf_store.specs.Leaves.{record_count, room_at};
-ghost use Rattle.leaf_store.specs.Changes.{IsRoomRefusal, MovesRows};
+ghost use Rattle.leaf_store.specs.Changes.{IsRoomRefusal, MovesRows, NeedsRoom};
 ghost use Rattle.leaf_store.specs.Making.{MakesRoom};
 ghost use Rattle.leaf_store.specs.Merging.{KeepsParts};
-ghost use Rattle.leaf_store.specs.Pairs.{HalvesLeaf, SpreadsLeaf, Stands};
-ghost use Rattle.leaf_store.specs.Ranges.{HasRoomWithin, IsOutOfLeaves};
-ghost use Rattle.leaf_store.specs.Table.{IsPlace, IsRoomyWindow, leaves_of, segments_at};
+ghost use Rattle.leaf_store.specs.Moving.{CanSplit, CanSpread, HasRoomThere, MovesAcross, MovesWithin, SpreadsThere};
+ghost use Rattle.leaf_store.specs.Pairs.{HalvesLeaf};
+ghost use Rattle.leaf_store.specs.Ranges.{IsOutOfLeaves};
+ghost use Rattle.leaf_store.specs.Table.{IsRoomyWindow, leaves_of, segments_at};
 ghost use Rattle.leaf_store.specs.Queued.{IsTended};
 
 use crate::place::place_of;
@@ -34,10 +32,7 @@ use txn_manager::RoomRefusal;
 impl LeafStore {
     /// Makes room for so many rows in the key's cell: spreads the smallest window that has it, else splits the leaf.
     pub fn make_room(&mut self, key: Key, need: u8) -> Result<(), RoomRefusal>
-        requires within { is_below key end_key ≡ true }
-        requires some { 1 ≤ need }
-        requires few { need ≤ 2 }
-        requires short { room_at self.old key < need }
+        requires { NeedsRoom self.old key need }
         ensures ok { OnOk result (need ≤ room_at self.new key) }
         ensures moved { MovesRows self.old self.new }
         ensures retired { self.new.retired ≡ self.old.retired }
@@ -94,15 +89,11 @@ pub(crate) fn spread_queued(
     window: Window,
 ) -> Result<(), NoMemory>
     requires tended { IsTended index.old leaves.old.items queue.old }
-    requires stands { Stands index.old.entries leaf }
-    requires window { IsWindow window }
-    requires few { length (rows_of (window_of window (segments_at leaves.old.items leaf))) ≤ 30 * window.len }
-    ensures ok { OnOk result (HasRoomWithin window leaf index.old.entries (leaves_of index.new leaves.new.items)) }
+    requires can { CanSpread window leaf index.old leaves.old.items }
+    ensures ok { OnOk result
+        (SpreadsThere window leaf index.old leaves.old.items (leaves_of index.new leaves.new.items)) }
     ensures tended { IsTended index.new leaves.new.items queue.new }
-    ensures moved { MovesRows (leaves_of index.old leaves.old.items) (leaves_of index.new leaves.new.items) }
-    ensures others { index.new ≡ record index.old { entries = index.new.entries } }
-    ensures spreads { OnOk result (SpreadsLeaf window leaf (segments_at leaves.old.items leaf)
-        (leaves_of index.old leaves.old.items) (leaves_of index.new leaves.new.items)) }
+    ensures moved { MovesWithin index.old index.new leaves.old.items leaves.new.items }
     ensures err { OnErr result (KeepsParts
         (leaves_of index.old leaves.old.items) (leaves_of index.new leaves.new.items)) }
     ensures settled { record_count (leaves_of index.old leaves.old.items) ≡ 0 → IsOk result }
@@ -121,15 +112,12 @@ fn split_queued(
     place: Place,
 ) -> Result<(), RoomRefusal>
     requires tended { IsTended index.old leaves.old.items queue.old }
-    requires place { (key : Key) × IsPlace key index.old.entries place × (is_below key end_key ≡ true) }
-    requires many { 207 ≤ length (rows_of (segments_at leaves.old.items place.leaf)) }
-    ensures ok { OnOk result ((key : Key) → IsPlace key index.old.entries place → is_below key end_key ≡ true
-        → 2 ≤ room_at (leaves_of index.new leaves.new.items) key) }
-    ensures tended { IsTended index.new leaves.new.items queue.new }
-    ensures moved { MovesRows (leaves_of index.old leaves.old.items) (leaves_of index.new leaves.new.items) }
-    ensures retired { index.new.retired ≡ index.old.retired }
+    requires can { CanSplit place index.old leaves.old.items }
+    ensures room { OnOk result (HasRoomThere place index.old (leaves_of index.new leaves.new.items)) }
     ensures halves { OnOk result (HalvesLeaf (segments_at leaves.old.items place.leaf)
         (leaves_of index.old leaves.old.items) (leaves_of index.new leaves.new.items)) }
+    ensures tended { IsTended index.new leaves.new.items queue.new }
+    ensures moved { MovesAcross index.old index.new leaves.old.items leaves.new.items }
     ensures refused { IfErr result (λ refusal.
         IsOutOfLeaves refusal index.old index.new leaves.old.items leaves.new.items) }
 {

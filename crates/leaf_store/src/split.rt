@@ -2,20 +2,16 @@
 //!
 //! 1. The index has the new entry before rows move, so that running out of memory leaves all as it was.
 
-ghost use Rattle.std.specs.Prelude.{◌≡◌, ◌≤◌, true, [], length, IfErr, IfOk, OnErr, OnOk};
-ghost use Rattle.graph_model.specs.declared.row.Key.{Key};
-ghost use Rattle.graph_model.specs.Rows.{is_below, end_key};
+ghost use Rattle.std.specs.Prelude.{◌≡◌, ◌≤◌, [], length, IfErr, IfOk, OnErr, OnOk};
 ghost use Rattle.std.specs.List.{AllByRecursion};
 ghost use Rattle.leaf_table.specs.VersionSegment.Rows.{IsSegment};
 ghost use Rattle.leaf_table.specs.LeafArray.Leaves.{IsLeaf};
 ghost use Rattle.leaf_table.specs.LeafArray.Segments.{AreSame, rows_of};
 ghost use Rattle.leaf_index.specs.Index.{IsTaken};
-ghost use Rattle.leaf_store.specs.Changes.{MovesRows};
-ghost use Rattle.leaf_store.specs.Leaves.{room_at};
 ghost use Rattle.leaf_store.specs.Merging.{KeepsParts};
-ghost use Rattle.leaf_store.specs.Pairs.{HalvesLeaf};
-ghost use Rattle.leaf_store.specs.Ranges.{DividesLeaf, IsLive, IsOutOfLeaves, KeepsLeaves, SplitsEntry, SplitsLeaf};
-ghost use Rattle.leaf_store.specs.Table.{IsKept, IsPlace, leaves_of, segments_at};
+ghost use Rattle.leaf_store.specs.Moving.{CanSplit, KeepsOne, MovesAcross, SplitsThere};
+ghost use Rattle.leaf_store.specs.Ranges.{IsLive, IsOutOfLeaves, SplitsEntry, SplitsLeaf};
+ghost use Rattle.leaf_store.specs.Table.{IsKept, leaves_of, segments_at};
 
 use crate::range::{halve_range, join_range};
 use graph_model::{Key, NoMemory};
@@ -86,8 +82,7 @@ fn split_with(
     ensures ok { OnOk result ((live : IsLive index.old.entries (segments_at leaves.old.items leaf))
         → live.entry.leaf ≡ leaf
         → SplitsLeaf index.old index.new leaves.old.items leaves.new.items leaf other) }
-    ensures err { OnErr result (index.new ≡ index.old) }
-    ensures same { OnErr result (KeepsLeaves leaves.old.items leaves.new.items leaf) }
+    ensures err { OnErr result (KeepsOne index.old index.new leaves.old.items leaves.new.items leaf) }
 {
     // The memory of the new leaf comes before the index or a row changes.
     let mut right = empty_leaf(alloc)?;
@@ -107,17 +102,10 @@ pub(crate) fn split_at(
     place: Place,
 ) -> Result<u32, RoomRefusal>
     requires kept { IsKept index.old leaves.old.items }
-    requires place { (key : Key) × IsPlace key index.old.entries place × (is_below key end_key ≡ true) }
-    requires many { 207 ≤ length (rows_of (segments_at leaves.old.items place.leaf)) }
-    ensures ok { OnOk result ((key : Key) → IsPlace key index.old.entries place → is_below key end_key ≡ true
-        → 2 ≤ room_at (leaves_of index.new leaves.new.items) key) }
-    ensures kept { IsKept index.new leaves.new.items }
-    ensures two { IfOk result (λ other. DividesLeaf place.leaf other
-        (leaves_of index.old leaves.old.items) (leaves_of index.new leaves.new.items)) }
-    ensures moved { MovesRows (leaves_of index.old leaves.old.items) (leaves_of index.new leaves.new.items) }
-    ensures retired { index.new.retired ≡ index.old.retired }
-    ensures halves { OnOk result (HalvesLeaf (segments_at leaves.old.items place.leaf)
-        (leaves_of index.old leaves.old.items) (leaves_of index.new leaves.new.items)) }
+    requires can { CanSplit place index.old leaves.old.items }
+    ensures ok { IfOk result (λ other.
+        SplitsThere place other index.old index.new leaves.old.items leaves.new.items) }
+    ensures moved { MovesAcross index.old index.new leaves.old.items leaves.new.items }
     ensures err { OnErr result (KeepsParts
         (leaves_of index.old leaves.old.items) (leaves_of index.new leaves.new.items)) }
     ensures refused { IfErr result (λ refusal.

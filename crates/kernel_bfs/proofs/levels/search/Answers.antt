@@ -1,4 +1,4 @@
-use Rattle.std.proofs.Common.{◌+◌, ◌<◌, ◌++◌, [], ◌∷◌, length, slice_set, replicate, ap, sym, ◌∙◌, subst, arith}
+use Rattle.std.proofs.Common.{◌+◌, ◌<◌, [], ◌∷◌, length, slice_set, replicate, ap, sym, ◌∙◌, subst, arith}
 use Rattle.graph_image.specs.Images.{Leads}
 use Rattle.kernel_bfs.specs.declared.levels.TheConstants.{UNREACHED}
 use Rattle.kernel_bfs.specs.Levels.{IsFrontier}
@@ -12,13 +12,14 @@ levels-init g c =
     let n = length c.args.image.now.vertices in
     let filled = c.in_ok-distances.ensures.items_if_clones_equal (λ y same. same) in
     let distances = ap (λ xs. slice_set xs c.args.root 0) (filled ∙ ap (λ n. replicate n UNREACHED) c.len-count.ensures.len) in
-    let first = c.in_ok-push.ensures.items ∙ ap (λ xs. xs ++ c.args.root ∷ []) c.in_ok-first.ensures.items in
+    let first = c.in_ok-frontier.ensures.places in
     let begun = begun_on n c.args.root c.requires in (
       subst (λ ds. IsOnLevel n 0 ds (places_at 0 ds)) (sym distances) (level_rising n 0 (slice_set (replicate n UNREACHED) c.args.root 0) (c.args.root ∷ []) begun),
       λ graph is. subst (λ ds. IsRight (Leads graph c.args.image.now.vertices) c.args.root 0 ds) (sym distances) (begun_right n c.args.root c.requires (Leads graph c.args.image.now.vertices)),
       (let room = c.in_ok-set.ensures in let count = c.len-count.ensures.len in omega arith),
-      listed_level n 0 _ _ (sym (ap length first))
-          (subst (λ ds. IsFrontier 0 ds c.push.new.self.items) (sym distances) (subst (λ fs. IsFrontier 0 (slice_set (replicate n UNREACHED) c.args.root 0) fs) (sym first) begun.front)),
+      listed_level n 0 _ _ (c.in_ok-frontier.ensures.count ∙ sym (ap length first))
+          (subst (λ ds. IsFrontier 0 ds c.in_ok-frontier.frontier.places.items) (sym distances)
+          (subst (λ fs. IsFrontier 0 (slice_set (replicate n UNREACHED) c.args.root 0) fs) (sym first) begun.front)),
     )
 
 pub levels-preserved : goal.levels-preserved

@@ -1,6 +1,7 @@
-use Rattle.std.proofs.Common.{sym, ◌∙◌, ap, subst}
+use Rattle.std.proofs.Common.{refl, sym, ◌∙◌, ap, subst}
 use Rattle.leaf_index.specs.Index.{Index, IsTaken}
 use Rattle.leaf_store.proofs.PairLemmas.{can_cut, can_drop, dropped_is, first_begin, merged_is}
+use Rattle.leaf_store.proofs.SplitLemmas.{always_err}
 use Rattle.leaf_store.proofs.pair.merge_entries.Goals as goal
 
 pub drop_leaf-requires : goal.drop_leaf-requires
@@ -32,3 +33,8 @@ returns-clause-ok c = λ live.
     let dropped = dropped_is c.args.index.now c.args.left.now.segments c.args.right.now.segments c.args.number c.args.stamp live c.low-cut.result cut c.drop_leaf.new.self.entries c.drop_leaf.ensures.entries in
     merged_is c.args.index.now c.args.left.now.segments c.args.right.now.segments c.args.number c.args.stamp live c.merge_leaves.new.left.segments c.merge_leaves.new.right.segments c.in_ok-merge_leaves.ensures.ok c.cuts_of.ensures.sound c.cuts_of.result c.cuts_of.ensures.cuts c.low-low.result low
     c.drop_leaf.new.self c.retire.new.self c.set_separators.new.self c.drop_leaf.ensures.others dropped c.retire.ensures c.set_separators.ensures.entries c.set_separators.ensures.others
+
+pub returns-in_err-merge_leaves-clause-err : goal.returns-in_err-merge_leaves-clause-err
+returns-in_err-merge_leaves-clause-err c =
+    let e = c.in_err-merge_leaves.ensures in
+    always_err _ c.from_residual.result (record { same = refl; left = e.left; right = e.right })

@@ -67,20 +67,20 @@ returns-in-Err-clause-kept c =
     let left = (left_read c.args.index.now c.args.leaves.now.items c.args.pair c.requires.kept c.requires.pair.found c.replace.new.dest c.index_mut-2.result.now c.in-Some-index_mut.left c.deref_mut.result.now c.index_mut-2.ensures.value c.in-Some-index_mut.is c.deref_mut.ensures.value) in
     let right = (stands_segments c.args.index.now c.args.leaves.now.items c.args.pair.right c.requires.kept (right_stands c.args.index.now c.args.leaves.now.items c.args.pair c.requires.kept c.requires.pair.found)
     c.index_mut.result.now c.in-Some.right c.deref_mut-in-Some-index_mut.result.now c.index_mut.ensures.value (sym c.replace.ensures.value ∙ c.in-Some.is) c.deref_mut-in-Some-index_mut.ensures.value) in
-    subst (IsKept c.merge_entries-merged.new.index) (sym c.put_leaf.ensures) (pair_kept c.args.index.now c.args.leaves.now.items c.args.pair c.requires.kept c.requires.pair.found c.merge_entries-merged.new.index _ c.args.stamp c.in-Err.ensures.err (again_others c.args.index.now c.args.leaves.now.items c.args.pair c.requires.kept c.requires.pair.found c.replace.new.dest (Some (with_value c.in-Some-index_mut.left c.merge_entries-merged.new.left)) (Some (with_value c.in-Some.right c.merge_entries-merged.new.right)))
+    subst (IsKept c.merge_entries-merged.new.index) (sym c.put_leaf.ensures) (pair_kept c.args.index.now c.args.leaves.now.items c.args.pair c.requires.kept c.requires.pair.found c.merge_entries-merged.new.index _ c.args.stamp c.in-Err.ensures.err.same (again_others c.args.index.now c.args.leaves.now.items c.args.pair c.requires.kept c.requires.pair.found c.replace.new.dest (Some (with_value c.in-Some-index_mut.left c.merge_entries-merged.new.left)) (Some (with_value c.in-Some.right c.merge_entries-merged.new.right)))
     (again_count c.args.index.now c.args.leaves.now.items c.args.pair c.requires.kept c.requires.pair.found c.replace.new.dest (Some (with_value c.in-Some-index_mut.left c.merge_entries-merged.new.left)) (Some (with_value c.in-Some.right c.merge_entries-merged.new.right)))
-    (subst (AreSame (segments_at c.args.leaves.now.items c.args.pair.left)) (sym (again_left c.args.index.now c.args.leaves.now.items c.args.pair c.requires.kept c.requires.pair.found c.replace.new.dest (Some (with_value c.in-Some-index_mut.left c.merge_entries-merged.new.left)) (Some (with_value c.in-Some.right c.merge_entries-merged.new.right)))) (subst (λ ss. AreSame ss c.merge_entries-merged.new.left.segments) (sym left) c.in-Err.ensures.left))
-    (subst (AreSame (segments_at c.args.leaves.now.items c.args.pair.right)) (sym (again_right c.args.index.now c.args.leaves.now.items c.args.pair c.requires.kept c.requires.pair.found c.replace.new.dest (Some (with_value c.in-Some-index_mut.left c.merge_entries-merged.new.left)) (Some (with_value c.in-Some.right c.merge_entries-merged.new.right)))) (subst (λ ss. AreSame ss c.merge_entries-merged.new.right.segments) (sym right) c.in-Err.ensures.right))).0
+    (subst (AreSame (segments_at c.args.leaves.now.items c.args.pair.left)) (sym (again_left c.args.index.now c.args.leaves.now.items c.args.pair c.requires.kept c.requires.pair.found c.replace.new.dest (Some (with_value c.in-Some-index_mut.left c.merge_entries-merged.new.left)) (Some (with_value c.in-Some.right c.merge_entries-merged.new.right)))) (subst (λ ss. AreSame ss c.merge_entries-merged.new.left.segments) (sym left) c.in-Err.ensures.err.left))
+    (subst (AreSame (segments_at c.args.leaves.now.items c.args.pair.right)) (sym (again_right c.args.index.now c.args.leaves.now.items c.args.pair c.requires.kept c.requires.pair.found c.replace.new.dest (Some (with_value c.in-Some-index_mut.left c.merge_entries-merged.new.left)) (Some (with_value c.in-Some.right c.merge_entries-merged.new.right)))) (subst (λ ss. AreSame ss c.merge_entries-merged.new.right.segments) (sym right) c.in-Err.ensures.err.right))).0
 
 pub returns-in-Err-clause-compacts : goal.returns-in-Err-clause-compacts
 returns-in-Err-clause-compacts c =
     let left = (left_read c.args.index.now c.args.leaves.now.items c.args.pair c.requires.kept c.requires.pair.found c.replace.new.dest c.index_mut-2.result.now c.in-Some-index_mut.left c.deref_mut.result.now c.index_mut-2.ensures.value c.in-Some-index_mut.is c.deref_mut.ensures.value) in
     let right = (stands_segments c.args.index.now c.args.leaves.now.items c.args.pair.right c.requires.kept (right_stands c.args.index.now c.args.leaves.now.items c.args.pair c.requires.kept c.requires.pair.found)
     c.index_mut.result.now c.in-Some.right c.deref_mut-in-Some-index_mut.result.now c.index_mut.ensures.value (sym c.replace.ensures.value ∙ c.in-Some.is) c.deref_mut-in-Some-index_mut.ensures.value) in
-    subst (λ t. Compacts (leaves_of c.args.index.now c.args.leaves.now.items) (leaves_of c.merge_entries-merged.new.index t) c.args.stamp) (sym c.put_leaf.ensures) (pair_kept c.args.index.now c.args.leaves.now.items c.args.pair c.requires.kept c.requires.pair.found c.merge_entries-merged.new.index _ c.args.stamp c.in-Err.ensures.err (again_others c.args.index.now c.args.leaves.now.items c.args.pair c.requires.kept c.requires.pair.found c.replace.new.dest (Some (with_value c.in-Some-index_mut.left c.merge_entries-merged.new.left)) (Some (with_value c.in-Some.right c.merge_entries-merged.new.right)))
+    subst (λ t. Compacts (leaves_of c.args.index.now c.args.leaves.now.items) (leaves_of c.merge_entries-merged.new.index t) c.args.stamp) (sym c.put_leaf.ensures) (pair_kept c.args.index.now c.args.leaves.now.items c.args.pair c.requires.kept c.requires.pair.found c.merge_entries-merged.new.index _ c.args.stamp c.in-Err.ensures.err.same (again_others c.args.index.now c.args.leaves.now.items c.args.pair c.requires.kept c.requires.pair.found c.replace.new.dest (Some (with_value c.in-Some-index_mut.left c.merge_entries-merged.new.left)) (Some (with_value c.in-Some.right c.merge_entries-merged.new.right)))
     (again_count c.args.index.now c.args.leaves.now.items c.args.pair c.requires.kept c.requires.pair.found c.replace.new.dest (Some (with_value c.in-Some-index_mut.left c.merge_entries-merged.new.left)) (Some (with_value c.in-Some.right c.merge_entries-merged.new.right)))
-    (subst (AreSame (segments_at c.args.leaves.now.items c.args.pair.left)) (sym (again_left c.args.index.now c.args.leaves.now.items c.args.pair c.requires.kept c.requires.pair.found c.replace.new.dest (Some (with_value c.in-Some-index_mut.left c.merge_entries-merged.new.left)) (Some (with_value c.in-Some.right c.merge_entries-merged.new.right)))) (subst (λ ss. AreSame ss c.merge_entries-merged.new.left.segments) (sym left) c.in-Err.ensures.left))
-    (subst (AreSame (segments_at c.args.leaves.now.items c.args.pair.right)) (sym (again_right c.args.index.now c.args.leaves.now.items c.args.pair c.requires.kept c.requires.pair.found c.replace.new.dest (Some (with_value c.in-Some-index_mut.left c.merge_entries-merged.new.left)) (Some (with_value c.in-Some.right c.merge_entries-merged.new.right)))) (subst (λ ss. AreSame ss c.merge_entries-merged.new.right.segments) (sym right) c.in-Err.ensures.right))).1
+    (subst (AreSame (segments_at c.args.leaves.now.items c.args.pair.left)) (sym (again_left c.args.index.now c.args.leaves.now.items c.args.pair c.requires.kept c.requires.pair.found c.replace.new.dest (Some (with_value c.in-Some-index_mut.left c.merge_entries-merged.new.left)) (Some (with_value c.in-Some.right c.merge_entries-merged.new.right)))) (subst (λ ss. AreSame ss c.merge_entries-merged.new.left.segments) (sym left) c.in-Err.ensures.err.left))
+    (subst (AreSame (segments_at c.args.leaves.now.items c.args.pair.right)) (sym (again_right c.args.index.now c.args.leaves.now.items c.args.pair c.requires.kept c.requires.pair.found c.replace.new.dest (Some (with_value c.in-Some-index_mut.left c.merge_entries-merged.new.left)) (Some (with_value c.in-Some.right c.merge_entries-merged.new.right)))) (subst (λ ss. AreSame ss c.merge_entries-merged.new.right.segments) (sym right) c.in-Err.ensures.err.right))).1
 
 pub returns-in-Ok-clause-ok : goal.returns-in-Ok-clause-ok
 returns-in-Ok-clause-ok c =
@@ -97,9 +97,9 @@ returns-in-Err-clause-err c =
     let left = (left_read c.args.index.now c.args.leaves.now.items c.args.pair c.requires.kept c.requires.pair.found c.replace.new.dest c.index_mut-2.result.now c.in-Some-index_mut.left c.deref_mut.result.now c.index_mut-2.ensures.value c.in-Some-index_mut.is c.deref_mut.ensures.value) in
     let right = (stands_segments c.args.index.now c.args.leaves.now.items c.args.pair.right c.requires.kept (right_stands c.args.index.now c.args.leaves.now.items c.args.pair c.requires.kept c.requires.pair.found)
     c.index_mut.result.now c.in-Some.right c.deref_mut-in-Some-index_mut.result.now c.index_mut.ensures.value (sym c.replace.ensures.value ∙ c.in-Some.is) c.deref_mut-in-Some-index_mut.ensures.value) in
-    subst (λ t. KeepsParts (leaves_of c.args.index.now c.args.leaves.now.items) (leaves_of c.merge_entries-merged.new.index t)) (sym c.put_leaf.ensures) (pair_stays c.args.index.now c.args.leaves.now.items c.args.pair c.requires.kept c.requires.pair.found c.merge_entries-merged.new.index _ c.in-Err.ensures.err (again_others c.args.index.now c.args.leaves.now.items c.args.pair c.requires.kept c.requires.pair.found c.replace.new.dest (Some (with_value c.in-Some-index_mut.left c.merge_entries-merged.new.left)) (Some (with_value c.in-Some.right c.merge_entries-merged.new.right)))
-    (subst (AreSame (segments_at c.args.leaves.now.items c.args.pair.left)) (sym (again_left c.args.index.now c.args.leaves.now.items c.args.pair c.requires.kept c.requires.pair.found c.replace.new.dest (Some (with_value c.in-Some-index_mut.left c.merge_entries-merged.new.left)) (Some (with_value c.in-Some.right c.merge_entries-merged.new.right)))) (subst (λ ss. AreSame ss c.merge_entries-merged.new.left.segments) (sym left) c.in-Err.ensures.left))
-    (subst (AreSame (segments_at c.args.leaves.now.items c.args.pair.right)) (sym (again_right c.args.index.now c.args.leaves.now.items c.args.pair c.requires.kept c.requires.pair.found c.replace.new.dest (Some (with_value c.in-Some-index_mut.left c.merge_entries-merged.new.left)) (Some (with_value c.in-Some.right c.merge_entries-merged.new.right)))) (subst (λ ss. AreSame ss c.merge_entries-merged.new.right.segments) (sym right) c.in-Err.ensures.right)))
+    subst (λ t. KeepsParts (leaves_of c.args.index.now c.args.leaves.now.items) (leaves_of c.merge_entries-merged.new.index t)) (sym c.put_leaf.ensures) (pair_stays c.args.index.now c.args.leaves.now.items c.args.pair c.requires.kept c.requires.pair.found c.merge_entries-merged.new.index _ c.in-Err.ensures.err.same (again_others c.args.index.now c.args.leaves.now.items c.args.pair c.requires.kept c.requires.pair.found c.replace.new.dest (Some (with_value c.in-Some-index_mut.left c.merge_entries-merged.new.left)) (Some (with_value c.in-Some.right c.merge_entries-merged.new.right)))
+    (subst (AreSame (segments_at c.args.leaves.now.items c.args.pair.left)) (sym (again_left c.args.index.now c.args.leaves.now.items c.args.pair c.requires.kept c.requires.pair.found c.replace.new.dest (Some (with_value c.in-Some-index_mut.left c.merge_entries-merged.new.left)) (Some (with_value c.in-Some.right c.merge_entries-merged.new.right)))) (subst (λ ss. AreSame ss c.merge_entries-merged.new.left.segments) (sym left) c.in-Err.ensures.err.left))
+    (subst (AreSame (segments_at c.args.leaves.now.items c.args.pair.right)) (sym (again_right c.args.index.now c.args.leaves.now.items c.args.pair c.requires.kept c.requires.pair.found c.replace.new.dest (Some (with_value c.in-Some-index_mut.left c.merge_entries-merged.new.left)) (Some (with_value c.in-Some.right c.merge_entries-merged.new.right)))) (subst (λ ss. AreSame ss c.merge_entries-merged.new.right.segments) (sym right) c.in-Err.ensures.err.right)))
 
 pub returns-in-Err-clause-settled : goal.returns-in-Err-clause-settled
 returns-in-Err-clause-settled c = λ none.

@@ -1,11 +1,12 @@
-use Rattle.std.proofs.Common.{◌≤◌, length, subst, arith}
+use Rattle.std.proofs.Common.{◌≤◌, length, refl, subst, arith}
 use Rattle.leaf_table.specs.LeafArray.Segments.{rows_of}
 use Rattle.leaf_store.specs.Ranges.{IsLive}
 use Rattle.leaf_store.proofs.SplitLemmas.{always_err, full_memory, full_segments, full_within, keeps_leaves, live_apart, nothing_kept, splits_leaf}
 use Rattle.leaf_store.proofs.split.split_with.Goals as goal
 
-pub returns-in_err-right-clause-same : goal.returns-in_err-right-clause-same
-returns-in_err-right-clause-same c = always_err _ c.from_residual.result (nothing_kept c.args.leaves.now.items c.args.leaf)
+pub returns-in_err-right-clause-err : goal.returns-in_err-right-clause-err
+returns-in_err-right-clause-err c =
+    always_err _ c.from_residual.result (record { same = refl; keeps = nothing_kept c.args.leaves.now.items c.args.leaf })
 
 pub index_mut-requires : goal.index_mut-requires
 index_mut-requires c = omega (arith, full_within c.args.leaves.now.items c.args.leaf c.requires.many)
@@ -21,10 +22,11 @@ pub split_entry-requires-clause-many : goal.split_entry-requires-clause-many
 split_entry-requires-clause-many c =
     subst (λ ss. 207 ≤ length (rows_of ss)) (full_segments c.args.leaves.now.items c.args.leaf c.requires.many c.index_mut.result.now c.in-Some.left c.deref_mut.result.now c.index_mut.ensures.value c.in-Some.is c.deref_mut.ensures.value) c.requires.many
 
-pub returns-in_err-split_entry-in-Some-clause-same : goal.returns-in_err-split_entry-in-Some-clause-same
-returns-in_err-split_entry-in-Some-clause-same c =
-    always_err _ c.from_residual-in_err-split_entry-in-Some.result (keeps_leaves c.args.leaves.now.items c.args.leaf c.requires.many c.in-Some.left c.deref_mut.result.now c.split_entry.new.left
-    (full_segments c.args.leaves.now.items c.args.leaf c.requires.many c.index_mut.result.now c.in-Some.left c.deref_mut.result.now c.index_mut.ensures.value c.in-Some.is c.deref_mut.ensures.value) c.in_err-split_entry-in-Some.ensures.same)
+pub returns-in_err-split_entry-in-Some-clause-err : goal.returns-in_err-split_entry-in-Some-clause-err
+returns-in_err-split_entry-in-Some-clause-err c =
+    let keeps = keeps_leaves c.args.leaves.now.items c.args.leaf c.requires.many c.in-Some.left c.deref_mut.result.now c.split_entry.new.left
+    (full_segments c.args.leaves.now.items c.args.leaf c.requires.many c.index_mut.result.now c.in-Some.left c.deref_mut.result.now c.index_mut.ensures.value c.in-Some.is c.deref_mut.ensures.value) c.in_err-split_entry-in-Some.ensures.same in
+    always_err _ c.from_residual-in_err-split_entry-in-Some.result (record { same = c.in_err-split_entry-in-Some.ensures.err; keeps = keeps })
 
 pub returns-clause-ok : goal.returns-clause-ok
 returns-clause-ok c = λ live number.

@@ -8,22 +8,24 @@ pub window_at-requires-clause-leaf : goal.window_at-requires-clause-leaf
 window_at-requires-clause-leaf c =
     stands_leaf c.self.inside.index c.self.inside.leaves.items c.place_of-place.result.leaf c.self.invariant.kept (place_stands c.self.inside.index c.self.inside.leaves.items c.args.key c.place_of-place.result c.self.invariant.kept c.place_of-place.ensures c.requires.within)
 
-pub spread_queued-requires-clause-stands : goal.spread_queued-requires-clause-stands
-spread_queued-requires-clause-stands c =
-    place_stands c.self.inside.index c.self.inside.leaves.items c.args.key c.place_of-place.result c.self.invariant.kept c.place_of-place.ensures c.requires.within
-
-pub spread_queued-requires-clause-window : goal.spread_queued-requires-clause-window
-spread_queued-requires-clause-window c =
+pub spread_queued-requires-clause-can : goal.spread_queued-requires-clause-can
+spread_queued-requires-clause-can c =
     let round = c.in-Some.ensures.round in
-    record { some = omega (arith, round.from, round.until); within = round.within }
+    record {
+      stands = place_stands c.self.inside.index c.self.inside.leaves.items c.args.key c.place_of-place.result c.self.invariant.kept c.place_of-place.ensures c.requires.within;
+      within = record { some = omega (arith, round.from, round.until); within = round.within };
+      few = few_in_window c.args.need c.place_of-place.result.segment c.in-Some.window _ c.in-Some.ensures.smallest;
+    }
 
-pub spread_queued-requires-clause-few : goal.spread_queued-requires-clause-few
-spread_queued-requires-clause-few c = few_in_window c.args.need c.place_of-place.result.segment c.in-Some.window _ c.in-Some.ensures.smallest
-
-pub split_queued-requires-clause-many : goal.split_queued-requires-clause-many
-split_queued-requires-clause-many c =
+pub split_queued-requires-clause-can : goal.split_queued-requires-clause-can
+split_queued-requires-clause-can c =
     let leaf = stands_leaf c.self.inside.index c.self.inside.leaves.items c.place_of-place.result.leaf c.self.invariant.kept (place_stands c.self.inside.index c.self.inside.leaves.items c.args.key c.place_of-place.result c.self.invariant.kept c.place_of-place.ensures c.requires.within) in
-    full_rows _ c.args.need c.place_of-place.result.segment leaf.segments c.place_of-place.ensures.last.within c.requires.few c.in-None.ensures.smallest
+    record {
+      key = c.args.key;
+      at = c.place_of-place.ensures;
+      below = c.requires.within;
+      many = full_rows _ c.args.need c.place_of-place.result.segment leaf.segments c.place_of-place.ensures.last.within c.requires.few c.in-None.ensures.smallest;
+    }
 
 pub returns-in-None-clause-refused : goal.returns-in-None-clause-refused
 returns-in-None-clause-refused c =
@@ -32,13 +34,13 @@ returns-in-None-clause-refused c =
 
 pub returns-in_ok-spread_queued-in-Some-clause-ok : goal.returns-in_ok-spread_queued-in-Some-clause-ok
 returns-in_ok-spread_queued-in-Some-clause-ok c =
-    let two = c.in_ok-spread_queued-in-Some.ensures.ok c.args.key c.place_of-place.result refl c.place_of-place.ensures c.requires.within c.in-Some.ensures.round in
+    let two = c.in_ok-spread_queued-in-Some.ensures.ok.room c.args.key c.place_of-place.result refl c.place_of-place.ensures c.requires.within c.in-Some.ensures.round in
     omega (arith, two, c.requires.few)
 
 pub returns-in_ok-spread_queued-in-Some-clause-made : goal.returns-in_ok-spread_queued-in-Some-clause-made
 returns-in_ok-spread_queued-in-Some-clause-made c =
     rw (← c.self.view_is)
-    (spread_makes c.self.inside.index c.self.inside.leaves.items c.args.key c.place_of-place.result c.args.need c.in-Some.window _ c.self.invariant.kept c.place_of-place.ensures c.requires.within c.in-Some.ensures.smallest c.in_ok-spread_queued-in-Some.ensures.spreads)
+    (spread_makes c.self.inside.index c.self.inside.leaves.items c.args.key c.place_of-place.result c.args.need c.in-Some.window _ c.self.invariant.kept c.place_of-place.ensures c.requires.within c.in-Some.ensures.smallest c.in_ok-spread_queued-in-Some.ensures.ok.spreads)
 
 pub returns-in-None-clause-made : goal.returns-in-None-clause-made
 returns-in-None-clause-made c =
