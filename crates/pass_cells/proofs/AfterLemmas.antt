@@ -181,18 +181,20 @@ module _ (z : Config) (v : Sight) (ts us : List TakenCell) (known : AreKnown z v
         untouched = λ e.
             let stays = was.kept.same e in
             let free = was.known.untouched stays.0 in
-            let chain : IsSameSegment was.known.state.segment u.held.value =
-            record {
-              low = stays.1.low ∙ was.known.same.low;
-              high = stays.1.high
-                  ∙ was.known.same.high;
-              rows = stays.1.rows ∙ was.known.same.rows;
-            } in
+            let low : u.held.value.low ≡ was.known.state.segment.low = was.kept.low ∙ was.known.same.low in
+            let high : u.held.value.high ≡ was.known.state.segment.high = was.kept.high ∙ was.known.same.high in
+            let words : word_rows u.held.value ≡ word_rows was.known.state.segment =
+            stays.1 ∙ ap (map word_row) was.known.same.rows in
             subst (λ (c : CellState). IsUntouched (record c { segment = u.held.value })) (sym is)
             (record {
               quiet = free.quiet;
-              spells = same_spells was.known.state.block was.known.state.segment
-                  u.held.value chain free.spells;
+              spells = record {
+                wide = free.spells.wide;
+                words = λ i n at. free.spells.words i n
+                    ((λ j. slice_get (spelled (sym low j) (sym high j) (sym words j)) i) ∙ at);
+                sound = was.kept.sound was.known.sound;
+                small = small u among;
+              };
             });
         count = refl;
       }

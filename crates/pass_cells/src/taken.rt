@@ -1,8 +1,8 @@
 //! Cells that a pass has taken, gathered and unpacked.
 //!
 //! 1. The first of them that covers a key is the key's. They are few, so it is looked for from the first one on.
-//! 2. A change sets the mark of its cell before the rows change. A touch changes no word of the cell's block, so it
-//!    leaves the mark for words alone.
+//! 2. A change sets the mark of its cell before the rows change. Neither a touch nor a stamp changes a word of the
+//!    cell's block, so they leave the mark of words alone.
 
 ghost use Rattle.std.specs.Prelude.{◌≡◌, ◌<◌, ◌≤◌, ◌++◌, true, false, [], ◌∷◌, length};
 ghost use Rattle.std.specs.Vec.{vec_capacity};
@@ -156,8 +156,6 @@ impl TakenCells {
         let place = self.place_of(key);
         let taken = &mut self.list[place];
         taken.held.changed = true;
-        // A stamp changes no word, but the cell is pruned next, and that does.
-        taken.words_changed = true;
         taken.held.value.is_segment();
         taken.held.value.stamp(key, by, number);
         taken.held.value.is_segment();
