@@ -15,7 +15,7 @@ ghost use Rattle.pass_writes.specs.Hand.{HasInHand};
 
 use graph_model::{Begun, Refusal, Write};
 use pass_prunes::below::{
-    Asker, Fingers, NOWHERE, Pass, PassStates, Store, TakenCells, rows_in_hand_are_known,
+    Asker, Fingers, Pass, PassStates, Store, TakenCells, rows_in_hand_are_known,
 };
 use std::marker::Brand;
 use undo_chain::Snapshot;
@@ -29,6 +29,7 @@ pub fn check(
     clock: u64,
     begun: Begun,
     write: Write,
+    near: &Fingers<usize>,
     has_edges: bool,
 ) -> Result<(), Refusal>
     requires hand { HasInHand store.now pass.old taken.now.list.items }
@@ -46,7 +47,7 @@ pub fn check(
         start: begun.start,
         own: begun.by,
     };
-    check_as::<Brand>(store, pass, taken, clock, &snapshot, write, has_edges)
+    check_as::<Brand>(store, pass, taken, clock, &snapshot, write, near, has_edges)
 }
 
 /// The same by whoever asks.
@@ -57,6 +58,7 @@ fn check_as<B: Asker>(
     clock: u64,
     snapshot: &Snapshot,
     write: Write,
+    near: &Fingers<usize>,
     has_edges: bool,
 ) -> Result<(), Refusal>
     requires asking { B.asking ≡ asking_of store.now pass.old clock }
@@ -83,7 +85,7 @@ fn check_as<B: Asker>(
         snapshot,
         &mut states,
         write,
-        &Fingers::alike(NOWHERE),
+        near,
         seen_before,
     );
     states.give_back(pass);

@@ -24,7 +24,7 @@ use crate::hand::{put_cells_back, take_cells};
 use crate::keys::FewKeys;
 use graph_model::{Begun, Cause, NoMemory, Refusal, TxnName, Write};
 use pass_prunes::below::{
-    Fingers, FoundRows, NOWHERE, Pass, PassCells, RoomNeed, Store, TakenCells, WrittenRows, learn,
+    FoundRows, Pass, PassCells, RoomNeed, Store, TakenCells, WrittenRows, learn,
     name_holder, note_later, rows_in_hand_are_known,
 };
 use std::sync::Wait;
@@ -99,8 +99,19 @@ fn write_in_hand(
     // Once, with all cells in hand: a commit is published by then or isn't, and that for all of its rows alike.
     let clock = learn(store, pass);
     let taken = &cells.taken;
-    match check(store, pass, taken, clock, begun, write, has_edges) {
-        Ok(()) => match lay(store, pass, cells, begun.by, write, rows) {
+    // Each row is searched for once.
+    let found = taken.find(rows);
+    match check(
+        store,
+        pass,
+        taken,
+        clock,
+        begun,
+        write,
+        &found.near,
+        has_edges,
+    ) {
+        Ok(()) => match lay(store, pass, cells, begun.by, write, &found) {
             Ok(written) => Ok(written),
             Err(NoMemory) => Err(Refusal::NoMemory),
         },
@@ -154,32 +165,28 @@ fn lay(
     cells: &mut PassCells,
     by: TxnName,
     write: Write,
-    rows: &WrittenRows,
+    found: &FoundRows<usize>,
 ) -> Result<Written, NoMemory>
     requires hand { HasInHand store.now pass.old cells.old.taken.list.items }
     requires opened { IsOpenIn (record { by = by; start = (state_of pass.old).start }) pass.old }
     requires within { IsWithinLimits write }
-    requires rows { rows.now ≡ rows_of store.now.accounts.config.kind write }
-    requires held { AreHeld (rows_in cells.old.taken) (all_keys rows.now) }
+    requires rows { found.now.rows ≡ rows_of store.now.accounts.config.kind write }
+    requires held { AreHeld (rows_in cells.old.taken) (all_keys found.now.rows) }
     requires found { MayBeMade store.now.accounts.config pass.old.account.me.0 pass.old.number (state_of pass.old)
         write }
     requires may { MayLay (rows_in cells.old.taken) write }
     requires few { MissesFew store.now.accounts.config.kind (rows_in cells.old.taken) write }
     ensures hand { HasInHand store.now pass.new cells.new.taken.list.items }
     ensures ok { IfOk result (λ written. Lays (state_of pass.old) write written (state_of pass.new)
-        × IsShortOf (rows_in cells.old.taken) (written_keys rows.now) written × IsForInsert write written) }
+        × IsShortOf (rows_in cells.old.taken) (written_keys found.now.rows) written × IsForInsert write written) }
     ensures err { OnErr result (state_of pass.new ≡ state_of pass.old) }
     ensures pin { pin_of pass.new ≡ pin_of pass.old }
     ensures same { IsSamePass pass.old pass.new }
 {
     // Before a row changes: a write with places for some of its rows alone would have to be taken back.
-    if let Some(short) = cells.taken.room_need(rows) {
+    if let Some(short) = cells.taken.room_need(found) {
         return Ok(Written::NeedRoom(short));
     }
-    let found = FoundRows {
-        rows: *rows,
-        near: Fingers::alike(NOWHERE),
-    };
-    cells.write(store, pass, by, write, &found, Touched::Maybe)?;
+    cells.write(store, pass, by, write, found, Touched::Maybe)?;
     Ok(Written::Done)
 }
