@@ -1,6 +1,6 @@
 -- What a pass knows of the cells in hand once a step has made its view know their rows.
 use Rattle.std.proofs.Common.{◌≡◌, ℕ, suc, ◌<◌, List, [], ◌∷◌, ◌++◌, length, refl, sym, ◌∙◌, ap, subst, cond, arith, inl, inr, Some}
-use Rattle.std.specs.Prelude.{Bool, true, false, ◌==◌, ◌||◌}
+use Rattle.std.specs.Prelude.{Bool, true, false, ◌==◌, ◌||◌, map, slice_get}
 use Rattle.std.specs.List.{AllByRecursion}
 use Rattle.std.specs.FinMap.Entries.{find}
 use Rattle.atomic_table.specs.declared.shared.Seat.{Seat}
@@ -11,11 +11,12 @@ use Rattle.txn_manager.specs.declared.config.Config.{Config}
 use Rattle.seat_views.specs.Keeping.{kept_at}
 use Rattle.seat_views.proofs.NumberLemmas.{kept-append, none_or_some}
 use Rattle.store_model.specs.Stamped.{StampedVersions}
-use Rattle.row_writes.specs.VersionSegment.Rows.{VersionedRows, IsSameSegment, IsSegment, or_nothing, versions_at}
+use Rattle.row_writes.specs.VersionSegment.Resting.{word_row, word_rows}
+use Rattle.row_writes.specs.VersionSegment.Rows.{VersionedRows, IsSegment, or_nothing, versions_at}
 use Rattle.store_rule.specs.StoreRelation.Passes.{PassState, fresh_pass}
 use Rattle.store_rule.specs.CellsModel.Cells.{CellState}
 use Rattle.store_rule.specs.CellsModel.Indexed.{covers}
-use Rattle.store_rule.specs.CellsModel.Words.{HasSmallValues, HasSmallWeights}
+use Rattle.store_rule.specs.CellsModel.Words.{HasSmallValues, HasSmallWeights, spelled}
 use Rattle.store_rule.specs.StoreWords.Spelling.{IsUntouched}
 use Rattle.store_rule.specs.RuleModel.Sight.{HasCell, Sight, cells_of, with_rows}
 use Rattle.latch_table.specs.declared.sight.LatchSight.{LatchSight}
@@ -30,7 +31,7 @@ use Rattle.pass_cells.specs.Holding.{AreKnown, Holds, IsKnown, IsLatchOf, number
 use Rattle.pass_cells.specs.Taken.{AreApart, AreFrom, KeepsCell, KeepCells, cell_at, counted, has_cell, is_taken}
 use Rattle.pass_cells.proofs.CellLemmas.{IsAmong, covers_same}
 use Rattle.pass_cells.proofs.SmallLemmas.{small_rows}
-use Rattle.pass_cells.proofs.StepLemmas.{apart_kept, from_kept, length_kept, news_taken, numbers_kept, pair_of, same_spells, state_is, taken_kept, unique_cell}
+use Rattle.pass_cells.proofs.StepLemmas.{apart_kept, from_kept, length_kept, news_taken, numbers_kept, pair_of, state_is, taken_kept, unique_cell}
 
 -- ---- all rows that are there are known
 

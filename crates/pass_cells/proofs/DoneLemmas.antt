@@ -113,6 +113,7 @@ count_more (y ∷ ys) zero (suc zero) t n next e is =
       held = (sym same k).held;
       rows =
           (is ∙ ap (λ (x : TakenCell). length x.held.value.rows) (sym same)) k;
+      words_changed = (sym same k).words_changed;
     } ∷ ys
 count_more (y ∷ ys) zero (suc (suc j)) t n next e is = absurd (omega (arith, next))
 count_more (y ∷ ys) (suc i) zero t n next e is = absurd (omega (arith, next))

@@ -1,5 +1,5 @@
 -- Words of rows that a change leaves as they are.
-use Rattle.std.proofs.Common.{◌≡◌, ℕ, List, [], ◌∷◌, length, map, refl, sym, ◌∙◌, ap, cond, arith, Some}
+use Rattle.std.proofs.Common.{◌≡◌, ℕ, ◌+◌, List, [], ◌∷◌, length, map, refl, sym, ◌∙◌, ap, cond, arith, Some}
 use Rattle.std.specs.Prelude.{Bool, true, false, ◌&&◌, ◌||◌, not, is_some, Option, T}
 use Rattle.std.specs.declared.cmp.Ordering.{Ordering}
 use Rattle.std.specs.declared.cmp.Ordering.TheVariants.{Less, Equal, Greater}
@@ -25,26 +25,31 @@ put_words : (k : Key) (vs : StampedVersions) (rows : List (Key × StampedVersion
     → length (put key_cmp k vs rows) ≡ length rows → value_word vs ≡ value_word (or_nothing (find key_cmp k rows))
     → map word_row (put key_cmp k vs rows) ≡ map word_row rows
 put_words k vs [] len same = cc
-put_words k vs (e ∷ es) len same = go (key_cmp k e.0) len same
+put_words k vs (e ∷ es) len same = go (key_cmp k e.0) (put_words k vs es) len same
   where
-    go : (o : Ordering) → length (by_order o ((k, vs) ∷ e ∷ es) ((e.0, vs) ∷ es) (e ∷ put key_cmp k vs es)) ≡ length (e ∷ es)
+    go : (o : Ordering)
+        → (length (put key_cmp k vs es) ≡ length es → value_word vs ≡ value_word (or_nothing (find key_cmp k es))
+        → map word_row (put key_cmp k vs es) ≡ map word_row es)
+        → length (by_order o ((k, vs) ∷ e ∷ es) ((e.0, vs) ∷ es) (e ∷ put key_cmp k vs es)) ≡ length (e ∷ es)
         → value_word vs ≡ value_word (or_nothing (cond (is_eq o) (Some e.1) (find key_cmp k es)))
         → map word_row (by_order o ((k, vs) ∷ e ∷ es) ((e.0, vs) ∷ es) (e ∷ put key_cmp k vs es)) ≡ map word_row (e ∷ es)
-    go Less long word = absurd (omega (arith, long))
-    go Equal long word = ap (λ n. record { key = e.0; weight = n } ∷ map word_row es) word
-    go Greater long word = ap (λ l. word_row e ∷ l) (put_words k vs es (omega (arith, long)) word)
+    go Less rest long word = absurd (omega (arith, long))
+    go Equal rest long word = ap (λ n. record { key = e.0; weight = n } ∷ map word_row es) word
+    go Greater rest long word = ap (λ l. word_row e ∷ l) (rest (omega (arith, long)) word)
 
 -- a key that has no row is in none
 none_gone : (k : Key) (rows : List (Key × StampedVersions)) → is_some (find key_cmp k rows) ≡ false
     → where_key key_cmp (λ q. not (eq_by_cmp key_cmp k q)) rows ≡ rows
 none_gone k [] none = refl
-none_gone k (e ∷ es) none = go (eq_by_cmp key_cmp k e.0) none
+none_gone k (e ∷ es) none = go (eq_by_cmp key_cmp k e.0) (none_gone k es) none
   where
-    go : (t : Bool) → is_some (cond t (Some e.1) (find key_cmp k es)) ≡ false
+    go : (t : Bool)
+        → (is_some (find key_cmp k es) ≡ false → where_key key_cmp (λ q. not (eq_by_cmp key_cmp k q)) es ≡ es)
+        → is_some (cond t (Some e.1) (find key_cmp k es)) ≡ false
         → cond (not t) (e ∷ where_key key_cmp (λ q. not (eq_by_cmp key_cmp k q)) es)
         (where_key key_cmp (λ q. not (eq_by_cmp key_cmp k q)) es) ≡ e ∷ es
-    go true h = cc
-    go false h = ap (λ l. e ∷ l) (none_gone k es h)
+    go true rest h = cc
+    go false rest h = ap (λ l. e ∷ l) (rest h)
 
 -- where the versions of one key change and its word doesn't, and it has a row afterwards if it had one, no word changes
 words_stay : (s t : VersionedRows) (key : Key) (vs : StampedVersions) → IsSegment s → ChangesKey s t key vs

@@ -4,7 +4,7 @@
 //! 2. A change sets the mark of its cell before the rows change. Neither a touch nor a stamp changes a word of the
 //!    cell's block, so they leave the mark of words alone.
 
-ghost use Rattle.std.specs.Prelude.{◌≡◌, ◌<◌, ◌≤◌, ◌++◌, true, false, [], ◌∷◌, length};
+ghost use Rattle.std.specs.Prelude.{◌≡◌, ◌<◌, ◌≤◌, ◌++◌, ◌||◌, true, false, [], ◌∷◌, length};
 ghost use Rattle.std.specs.Vec.{vec_capacity};
 ghost use Rattle.graph_model.specs.Rows.{is_below};
 ghost use Rattle.store_rule.specs.CellsModel.Indexed.{covers};
@@ -185,7 +185,7 @@ impl HeldCells for TakenCells {
         let place = self.place_of(key);
         let taken = &mut self.list[place];
         taken.held.changed = true;
-        taken.words_changed = changes_words(change) || taken.words_changed;
+        taken.words_changed = have_words_changed(change, taken.words_changed);
         taken.held.value.is_segment();
         taken.held.value.change(key, near, by, change);
         taken.held.value.is_segment();
@@ -196,15 +196,15 @@ impl HeldCells for TakenCells {
     ghost keeps_chain = { keeps_on };
 }
 
-/// Whether a change of a row may change words of its cell's block.
-fn changes_words(change: RowChange) -> bool
-    ensures { result ≡ changes_words change }
+/// Whether words of a cell's block may have changed after a change of a row, given whether they may have before.
+fn have_words_changed(change: RowChange, before: bool) -> bool
+    ensures { result ≡ (changes_words change || before) }
 {
     match change {
         RowChange::Write { value: _ } => true,
         RowChange::Undo => true,
         // No word tells who touched a row.
-        RowChange::Touch { earlier: _ } => false,
+        RowChange::Touch { earlier: _ } => before,
         // Where nothing but the touch was left of the row, it goes.
         RowChange::Untouch => true,
     }

@@ -43,6 +43,6 @@ returns-clause-keeps c =
       each = change_keeps cells t _ c.args.key c.place_of-place.result c.place_of-place.ensures.place there
           c.requires.held refl c.args.change c.args.by c.is_segment.ensures c.is_segment-2.ensures may
           c.change.ensures.changed c.change.ensures.spare refl
-          (ap (λ b. b || t.words_changed) c.changes_words.ensures);
+          c.have_words_changed-taken.ensures;
       room = refl;
     }
