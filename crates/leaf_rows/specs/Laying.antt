@@ -1,5 +1,5 @@
 -- When a write may be laid in rows, the room that it wants, and what calls leave.
-use Rattle.std.specs.Prelude.{◌≡◌, ℕ, ◌-◌, ◌*◌, ◌^◌, ◌<◌, ◌≤◌, min, true, false, not, List, [], count_by, Option}
+use Rattle.std.specs.Prelude.{◌≡◌, ℕ, ◌+◌, ◌-◌, ◌*◌, ◌^◌, ◌<◌, ◌≤◌, min, true, false, not, List, [], count_by, Option}
 use Rattle.graph_model.specs.declared.limits.TheConstants.{SPLIT_ROWS}
 use Rattle.graph_model.specs.declared.row.Key.{Key}
 use Rattle.graph_model.specs.declared.journal.TxnName.{TxnName}
@@ -11,7 +11,7 @@ use Rattle.graph_model.specs.Transactions.{has_name}
 use Rattle.txn_manager.specs.declared.config.RoomRefusal.{RoomRefusal}
 use Rattle.txn_manager.specs.declared.config.RoomRefusal.TheVariants as refusals
 use Rattle.store_model.specs.Versions.{prune}
-use Rattle.leaf_store.specs.Leaves.{Leaves, IsLeafOf, contents_of, has_row, record_count, room_at, shares, weight}
+use Rattle.leaf_store.specs.Leaves.{Leaves, IsLeafOf, cell_at, contents_of, has_row, record_count, room_at, shares, weight}
 use Rattle.leaf_index.specs.Calls.{freed_of}
 use Rattle.leaf_store.specs.Changes.{IsFull}
 use Rattle.leaf_store.specs.declared.store.Pruned.{Pruned}
@@ -86,6 +86,14 @@ pub record PrunesRange (stamps : TxnName → Option ℕ) (horizon : ℕ) (low hi
 pub record AreGone (records : ℕ) (old new : Leaves) : Type 0 where
   pub count : records ≡ min (record_count old - record_count new) (2 ^ 64 - 1)
   pub fewer : record_count new ≤ record_count old
+
+-- so many records went from the cell that has the key, which ends there, and no leaf more is used up
+pub record SweepsCell (old new : Leaves) (key : Key) (pruned : Pruned) : Type 0 where
+  pub went : pruned.records + record_count new ≡ record_count old
+  pub high : pruned.high ≡ (cell_at old key).high
+  pub holds : shares old key key ≡ true
+  pub limit : new.limit ≡ old.limit
+  pub weight : weight new ≤ weight old
 
 -- the rows of the leaf that has the key are pruned, and no others: so many records went, and there the leaf ends
 pub record PrunesLeaf (stamps : TxnName → Option ℕ) (horizon : ℕ) (old new : Leaves) (key : Key) (pruned : Pruned)

@@ -3,10 +3,9 @@
 //! Each key keeps what it has, whatever a call answers.
 
 ghost use Rattle.std.specs.Prelude.{◌≡◌, ◌<◌, ◌≤◌, [], false, true, length, IfErr, IsOk, OnOk};
-ghost use Rattle.graph_model.specs.Rows.{is_below, end_key};
 ghost use Rattle.leaf_index.specs.Calls.{freed_of};
 ghost use Rattle.leaf_store.specs.declared.pair.TheConstants.{STAMPS_END};
-ghost use Rattle.leaf_store.specs.Changes.{IsRoomRefusal};
+ghost use Rattle.leaf_store.specs.Changes.{IsRoomRefusal, NeedsRoom};
 ghost use Rattle.leaf_store.specs.Leaves.{record_count, room_at};
 ghost use Rattle.leaf_store.specs.Merging.{FreesRetired, IsCompact, IsMergeStep};
 ghost use Rattle.row_writes.specs.Written.{AreRows, written_keys};
@@ -96,10 +95,7 @@ impl LeafRows {
         need: u8,
         until: u64,
     ) -> Result<(), RoomRefusal>
-        requires within { is_below key end_key ≡ true }
-        requires some { 1 ≤ need }
-        requires few { need ≤ 2 }
-        requires short { room_at self.old key < need }
+        requires { NeedsRoom self.old key need }
         ensures contents { KeepsContents self.old self.new }
         ensures ok { OnOk result (need ≤ room_at self.new key) }
         ensures made { OnOk result (MakesRoomOrFrees until self.old self.new key need) }

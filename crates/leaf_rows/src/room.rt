@@ -10,7 +10,7 @@ ghost use Rattle.graph_model.specs.declared.limits.TheConstants.{SEGMENT_ROWS};
 ghost use Rattle.graph_model.specs.Rows.{is_below, is_between, end_key};
 ghost use Rattle.row_writes.specs.VersionSegment.Rows as segments;
 ghost use Rattle.leaf_store.specs.Leaves.{KeysHaveCells, has_row, room_at};
-ghost use Rattle.leaf_store.specs.Changes.{IsRoomRefusal};
+ghost use Rattle.leaf_store.specs.Changes.{IsRoomRefusal, NeedsRoom};
 ghost use Rattle.leaf_store.specs.Making.{MakesRoom};
 ghost use Rattle.leaf_rows.specs.Laying.{IsNoPlace, Stays, wanted};
 ghost use Rattle.leaf_rows.specs.Steps.{IsNeed, KeepsRoom, keys_with, wanted_in};
@@ -67,10 +67,7 @@ impl LeafRows {
 
     /// Makes room for so many rows in a key's cell.
     pub fn make_cell_room(&mut self, key: Key, need: u8) -> Result<(), RoomRefusal>
-        requires within { is_below key end_key ≡ true }
-        requires some { 1 ≤ need }
-        requires few { need ≤ 2 }
-        requires short { room_at self.old key < need }
+        requires { NeedsRoom self.old key need }
         ensures stays { Stays self.old self.new }
         ensures ok { OnOk result (need ≤ room_at self.new key) }
         ensures made { OnOk result (MakesRoom self.old self.new key need) }

@@ -2,15 +2,15 @@
 //!
 //! 1. It changes the view of no open transaction and takes no memory, so it may be done between any two calls.
 
-ghost use Rattle.std.specs.Prelude.{◌≡◌, ◌+◌, ◌<◌, ◌≤◌, ◌^◌, true, length};
+ghost use Rattle.std.specs.Prelude.{◌≡◌, ◌<◌, ◌≤◌, ◌^◌, true, length};
 ghost use Rattle.graph_model.specs.declared.row.Key.{Key};
 ghost use Rattle.graph_model.specs.Graph.{Graph};
 ghost use Rattle.graph_model.specs.Rows.{is_below, end_key};
 ghost use Rattle.graph_model.specs.Transactions.{stamp_in};
 ghost use Rattle.store_model.specs.Versions.{prune};
-ghost use Rattle.leaf_store.specs.Leaves.{cell_at, contents_of, record_count, shares, weight};
+ghost use Rattle.leaf_store.specs.Leaves.{contents_of, record_count, weight};
 ghost use Rattle.leaf_rows.specs.Loaded.{AreSettled};
-ghost use Rattle.leaf_rows.specs.Laying.{PrunesKeys, PrunesLeaf};
+ghost use Rattle.leaf_rows.specs.Laying.{PrunesKeys, PrunesLeaf, SweepsCell};
 
 use crate::reader::Known;
 use crate::rows::LeafRows;
@@ -91,12 +91,8 @@ impl LeafRows {
         requires within { is_below key end_key ≡ true }
         requires known { horizon ≤ length manager.now.journal }
         ensures prunes { PrunesKeys (stamp_in manager.now.journal) horizon self.old self.new key }
-        ensures went { result.records + record_count self.new ≡ record_count self.old }
-        ensures high { result.high ≡ (cell_at self.old key).high }
-        ensures holds { shares self.old key key ≡ true }
+        ensures cell { SweepsCell self.old self.new key result }
         ensures fits { result.high.second < 2 ^ 64 }
-        ensures limit { self.new.limit ≡ self.old.limit }
-        ensures weight { weight self.new ≤ weight self.old }
     {
         self.store.is_sound();
         let pruned = self.store.prune(key, horizon, &mut Known { manager });

@@ -10,18 +10,20 @@ cells-init c = rw c.of_vertex-key.ensures (record { pruned = pruned_none _ _ _; 
 
 pub cells-preserved : goal.cells-preserved
 cells-preserved c =
-    let cell = c.sweep-pruned.ensures in
+    let sweep = c.sweep-pruned.ensures in
+    let cell = sweep.cell in
     let before = c.cells.invariant in
     record {
-      pruned = pruned_more _ _ _ _ _ c.cells.key _ before.pruned cell.prunes cell.high cell.holds;
-      fits = cell.fits;
+      pruned = pruned_more _ _ _ _ _ c.cells.key _ before.pruned sweep.prunes cell.high cell.holds;
+      fits = sweep.fits;
       limit = cell.limit ∙ before.limit;
       weight = let x = cell.weight in let y = before.weight in omega (arith, x, y);
     }
 
 pub cells-smaller : goal.cells-smaller
 cells-smaller c =
-    let cell = c.sweep-pruned.ensures in
+    let sweep = c.sweep-pruned.ensures in
+    let cell = sweep.cell in
     let at = cell_at c.cells.self c.cells.key in
     let onward = rank_rises c.cells.key at.high (between_parts at.low at.high c.cells.key cell.holds).1 c.cells.invariant.fits in
     let within = rank_rises c.cells.key end_key (rw c.end.ensures at (sym c.is_below.ensures ∙ c.cells-test.true)) c.cells.invariant.fits in

@@ -14,18 +14,13 @@ pub returns-clause-prunes : goal.returns-clause-prunes
 returns-clause-prunes c =
     rw (← c.self.view_is) (prunes_keys _ c.args.horizon c.self.inside.store c.prune-pruned.new.self c.args.key c.prune-pruned.result c.is_sound.ensures.sound c.is_sound.ensures.apart c.prune-pruned.ensures.pruned c.self.invariant)
 
-pub returns-clause-went : goal.returns-clause-went
-returns-clause-went c = rw (← c.self.view_is) c.prune-pruned.ensures.pruned.left
-
-pub returns-clause-high : goal.returns-clause-high
-returns-clause-high c = rw (← c.self.view_is) c.prune-pruned.ensures.pruned.high
-
-pub returns-clause-holds : goal.returns-clause-holds
-returns-clause-holds c = rw (← c.self.view_is) (c.is_sound.ensures.there c.args.key c.requires.within)
-
-pub returns-clause-limit : goal.returns-clause-limit
-returns-clause-limit c = rw (← c.self.view_is) c.prune-pruned.ensures.pruned.changes.limit
-
-pub returns-clause-weight : goal.returns-clause-weight
-returns-clause-weight c =
-    rw (← c.self.view_is) (pruned_weight _ c.args.horizon c.self.inside.store c.prune-pruned.new.self c.args.key c.prune-pruned.result c.is_sound.ensures.sound c.is_sound.ensures.apart c.prune-pruned.ensures.pruned c.self.invariant)
+pub returns-clause-cell : goal.returns-clause-cell
+returns-clause-cell c =
+    let pruned = c.prune-pruned.ensures.pruned in
+    rw (← c.self.view_is) (record {
+      went = pruned.left;
+      high = pruned.high;
+      holds = c.is_sound.ensures.there c.args.key c.requires.within;
+      limit = pruned.changes.limit;
+      weight = pruned_weight _ c.args.horizon c.self.inside.store c.prune-pruned.new.self c.args.key c.prune-pruned.result c.is_sound.ensures.sound c.is_sound.ensures.apart pruned c.self.invariant;
+    })

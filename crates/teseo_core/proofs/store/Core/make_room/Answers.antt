@@ -13,6 +13,14 @@ invariant_of-self c =
     let f = c.self.inside in
     kept_moved (core_of f.kind f.leaves f.manager f.passes.items f.selected f.served) f.manager f.rows c.self.invariant c.make_cell_room_or_free.new.self c.make_cell_room_or_free.ensures.contents
 
+pub make_cell_room_or_free-requires : goal.make_cell_room_or_free-requires
+make_cell_room_or_free-requires c = record {
+  within = c.requires.within;
+  some = c.requires.some;
+  few = c.requires.few;
+  short = rw (← c.self.view_is) at c.requires.short;
+}
+
 pub returns-clause-refused : goal.returns-clause-refused
 returns-clause-refused c =
     let f = c.self.inside in
