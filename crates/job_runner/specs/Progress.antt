@@ -131,7 +131,7 @@ pub record IsRolledBack (job next : Progress) (account : Account) : Type 0 where
   pub over : is_over next ≡ true
   pub closed : account.start ≡ None
 
--- what a turn comes to: the line at hand takes it, or memory was wanted, and the transaction is taken back
+-- what a turn comes to, where the line at hand takes it so: it did, or memory was wanted, and the transaction is taken back
 abbrev pub ComesTo : {S : Type 0} → Calls S → (Command → Progress → S → Type 0) → S → Progress → JobTurn → Progress → S
     → Type 0
 ComesTo e Takes old job turns.More next new =
@@ -141,6 +141,7 @@ ComesTo e Takes old job turns.Ended next new =
 ComesTo {S = S} e Takes old job turns.NoMemory next new =
     (mid : S) × WantsOn e old mid × GivesUpOn e.aborts job.phase mid new × (next ≡ gone job)
 
+-- what a turn by the calls of the engine comes to
 abbrev pub TookTurnOn : {S : Type 0} → Calls S → S → Progress → JobTurn → Progress → S → Type 0
 TookTurnOn e old job turn next new = ComesTo e (TakesTurnOn e old job) old job turn next new
 

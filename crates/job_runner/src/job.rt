@@ -305,6 +305,7 @@ impl Job {
         // What turns of the line have read is let go: it is answered now, on the image that is kept or on a new one.
         self.reading = None;
         let mut image = self.image.take();
+        // Before the engine is called, as for any line.
         self.answers.reserve(1)?;
         self.tables.reserve(1)?;
         let command = &self.script.as_slice()[self.answers.len()];
