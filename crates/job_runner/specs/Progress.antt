@@ -131,7 +131,7 @@ pub record IsRolledBack (job next : Progress) (account : Account) : Type 0 where
   pub over : is_over next ≡ true
   pub closed : account.start ≡ None
 
--- what a turn comes to, where the line at hand takes it so: it did, or memory was wanted, and the transaction is taken back
+-- what a turn comes to: the line at hand takes it in this way, or memory was wanted, and the transaction is taken back
 abbrev pub ComesTo : {S : Type 0} → Calls S → (Command → Progress → S → Type 0) → S → Progress → JobTurn → Progress → S
     → Type 0
 ComesTo e Takes old job turns.More next new =

@@ -174,8 +174,8 @@ impl Job {
         self.end_turn(engine, took)
     }
 
-    /// Takes one turn as `turn` does, but that the line of a kernel takes one turn in all. So many readers scan its rows
-    /// at once.
+    /// Takes one turn as `turn` does, but that the line of a kernel takes one turn in all: so many readers scan its
+    /// rows at once.
     pub fn turn_parts<R: Threads + Sync, E: VertexEngine + PartScan>(
         &mut self,
         rt: &R,
