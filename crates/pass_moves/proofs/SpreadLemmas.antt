@@ -131,7 +131,7 @@ marked_moves t m u n put marked sound small = record {
   same = λ e. clash (sym marked.mark ∙ e);
 }
   where
-    clash : true ≡ false → (t.held.changed ≡ false) × IsSameSegment t.held.value u.held.value
+    clash : true ≡ false → (t.words_changed ≡ false) × IsSameSegment t.held.value u.held.value
     clash e = cc
 
 all_same : (ts : List TakenCell) (ns : List VersionedRows) (ms : List TakenCell) → HavePut ts ns ms
