@@ -2,7 +2,7 @@
 use Rattle.std.proofs.Common.{◌≡◌, ℕ, zero, suc, ◌+◌, ◌-◌, ◌<◌, ◌≤◌, List, [], ◌∷◌, ◌++◌, length, map, take, drop, refl, sym, ◌∙◌, ap, subst, arith, length-append}
 use Rattle.std.proofs.lemmas.List.{length-map, length-drop, length-take-le}
 use Rattle.std.proofs.lemmas.Option.{slice_get_within}
-use Rattle.std.specs.Prelude.{Some, slice_get}
+use Rattle.std.specs.Prelude.{Some, slice_get, Result, Ok, Err, IfOk, OnOk}
 use Rattle.std.specs.List.{AllByRecursion}
 use Rattle.graph_model.specs.Account.{Account}
 use Rattle.graph_model.proofs.PlaceLemmas.{some_eq}
@@ -23,6 +23,16 @@ use Rattle.rebalance_service.specs.Spare.{AreSpare}
 use Rattle.threaded_run.specs.Seats.{AreIdleFrom, CanRunBefore, CanRunOn}
 use Rattle.threaded_run.proofs.FreshLemmas.{AreUnused, fresh_behind, unused_from}
 use Rattle.threaded_run.proofs.PlaceLemmas.{in_front, behind, dropped}
+
+-- ---- of what is answered
+
+pub if_ran : {T E : Type 0} (r : Result T E) (P Q : T → Type 0) → ((x : T) → P x → Q x) → IfOk r P → IfOk r Q
+if_ran (Ok x) P Q weaker is = weaker x is
+if_ran (Err e) P Q weaker is = tt
+
+pub where_ran : {T E : Type 0} (r : Result T E) (P : Type 0) → P → OnOk r P
+where_ran (Ok x) P is = is
+where_ran (Err e) P is = tt
 
 -- ---- by their numbers
 

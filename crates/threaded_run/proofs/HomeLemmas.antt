@@ -50,6 +50,23 @@ served_as a b c d reads first last = subst (λ (u : Account × Account). ReadsBy
 
 -- ---- before the scripts run
 
+idle_from : (store : Store) (number : ℕ) (passes : List Pass) → ((k : ℕ) (pass : Pass) → slice_get passes k ≡ Some pass → IsIdle store pass × (pass.seats.number ≡ number + k)) → AreIdleFrom store number passes
+idle_from store number [] each = tt
+idle_from store number (pass ∷ passes) each =
+    let one = each 0 pass refl in (
+      one.0,
+      one.1 ∙ omega arith,
+      idle_from store (number + 1) passes (λ k other at. (let next = each (suc k) other at in (next.0, next.1 ∙ omega arith))),
+    )
+
+-- where no seat was made all passes are as they came
+pub idle_still : (inputs : Inputs) (store : Store) (list others : List Pass) (scripts : List (List Command)) → CanRunBefore inputs store list others scripts → AreIdleFrom store 0 list
+idle_still inputs store list others scripts before =
+    idle_from store 0 list (λ k pass at.
+    (let all = before.can.loaded.idle in
+    let there = in_front list others k pass at in
+    (all.idle k pass there, all.numbers k pass there ∙ omega arith)))
+
 pub some_passes : (inputs : Inputs) (store : Store) (list others : List Pass) (scripts : List (List Command)) → CanRunBefore inputs store list others scripts → 0 < length list
 some_passes inputs store list others scripts can = let count = can.count in omega (arith, count)
 

@@ -6,14 +6,14 @@ use Rattle.rebalance_service.specs.SharedStore.Passes.{account_of}
 use Rattle.rebalance_service.proofs.SendLemmas.{worker_send}
 use Rattle.threaded_run.specs.Seats.{AreSeated}
 use Rattle.threaded_run.proofs.SeatLemmas.{first_out}
-use Rattle.threaded_run.proofs.HomeLemmas.{some_passes, first_idle, rest_idle, rest_count, are_ready, idle_again, run_again, seats_count, zip_count, served_as}
+use Rattle.threaded_run.proofs.HomeLemmas.{idle_still, some_passes, first_idle, rest_idle, rest_count, are_ready, idle_again, run_again, seats_count, zip_count, served_as}
 use Rattle.threaded_run.proofs.workers.run_with_pool.Goals as goal
 
 pub run_threads-ended-requires-send-E : goal.run_threads-ended-requires-send-E
 run_threads-ended-requires-send-E g c = search (sendable, worker_send, c.type_bounds.sync-R)
 
 pub seat_all-requires-clause-loader : goal.seat_all-requires-clause-loader
-seat_all-requires-clause-loader g c =
+seat_all-requires-clause-loader g c κs within =
     let inputs = c.requires.can.0 in
     let others = c.requires.can.1 in
     let can = c.requires.can.2 in
@@ -21,7 +21,7 @@ seat_all-requires-clause-loader g c =
     first_idle inputs c.args.store.now c.args.passes.now.items others c.args.scripts can c.remove-loader.result c.remove-loader.new.self.items split
 
 pub seat_all-requires-clause-idle : goal.seat_all-requires-clause-idle
-seat_all-requires-clause-idle g c =
+seat_all-requires-clause-idle g c κs within =
     let inputs = c.requires.can.0 in
     let others = c.requires.can.1 in
     let can = c.requires.can.2 in
@@ -36,6 +36,12 @@ run_threads-ended-requires-clause-ready g c κs within =
     let split = first_out c.args.passes.now.items c.remove-loader.new.self.items c.remove-loader.result (some_passes inputs c.args.store.now c.args.passes.now.items others c.args.scripts can) c.remove-loader.ensures.value c.remove-loader.ensures.items in
     are_ready inputs c.args.store.now c.args.passes.now.items others c.args.scripts can c.remove-loader.result c.remove-loader.new.self.items split (λ w. w.store.now) (λ w. w.pass) c.seat_all.new.seats.items c.seat_all.ensures.store
     (subst (λ cs. AreSeated c.args.store.now (account_of c.args.store.now c.remove-loader.result).seen 1 cs c.remove-loader.new.self.items (map (λ x. (x.0, x.1.pass)) c.seat_all.new.seats.items)) c.into_vec.ensures c.seat_all.ensures.seated)
+
+pub returns-in_err-jobs-clause-idle : goal.returns-in_err-jobs-clause-idle
+returns-in_err-jobs-clause-idle g c = idle_still c.requires.can.0 c.args.store.now c.args.passes.now.items c.requires.can.1 c.args.scripts c.requires.can.2
+
+pub returns-in_err-seats-clause-idle : goal.returns-in_err-seats-clause-idle
+returns-in_err-seats-clause-idle g c = idle_still c.requires.can.0 c.args.store.now c.args.passes.now.items c.requires.can.1 c.args.scripts c.requires.can.2
 
 pub leave_all-requires-clause-passes : goal.leave_all-requires-clause-passes
 leave_all-requires-clause-passes g c =
