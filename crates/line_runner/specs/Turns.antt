@@ -173,7 +173,8 @@ AnswersSkipped old r given new = (given ≡ plain answers.Skipped (phase_behind 
 
 -- a line was answered
 abbrev pub AnswersLine : {S : Type 0} → Calls S → S → Phase → Command → LineAnswer → S → Type 0
-AnswersLine e old phase r given new = cond (is_skipping phase) (AnswersSkipped old r given new) (AnswersLive e old r given new)
+AnswersLine e old phase r given new =
+    cond (is_skipping phase) (AnswersSkipped old r given new) (AnswersLive e old r given new)
 
 -- the last turn of a line answers it
 pub record AnswersOn {S : Type 0} (e : Calls S) (old : S) (phase : Phase) (reading : Option LineReading) (r : Command)

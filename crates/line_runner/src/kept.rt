@@ -36,8 +36,8 @@ impl KeptImage {
         Ok(KeptImage { image, rows })
     }
 
-    /// The image of the graph whose rows these lists have, one behind the other, made by several threads. The rows go as
-    /// it is made.
+    /// The image of the graph whose rows these lists have, one behind the other, made by several threads. The rows go
+    /// as it is made.
     pub fn of_lists<R: Threads + Sync>(
         rt: &R,
         alloc: Global,

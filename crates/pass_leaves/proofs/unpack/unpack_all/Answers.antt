@@ -1,3 +1,4 @@
+use Rattle.std.specs.Prelude.{false}
 use Rattle.std.proofs.Common.{◌∙◌, List, ◌∷◌, ◌<◌, [], ap, arith, length, length-append, subst, sym}
 use Rattle.std.specs.Vec.{vec_len}
 use Rattle.latch_table.specs.declared.cells.Held.{Held}
