@@ -53,5 +53,5 @@ fn pack_again(store: &Store, pass: &mut Pass, held: Held<Resting>) -> Held<Resti
 {
     let mut held = store.unpack(pass, held);
     held.changed = true;
-    store.pack(pass, held)
+    store.pack(pass, held, true)
 }

@@ -7,6 +7,8 @@
 mod four_scripts;
 #[cfg(test)]
 mod full_script;
+#[cfg(test)]
+mod many_scripts;
 mod second_first;
 #[cfg(test)]
 mod side_by_side;

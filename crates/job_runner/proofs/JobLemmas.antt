@@ -1,6 +1,6 @@
 -- A job's fields, and what contracts see of it.
 use Rattle.std.proofs.Common.{◌≡◌, ℕ, zero, suc, ◌+◌, ◌<◌, ◌≤◌, List, [], ◌∷◌, length, drop, refl, sym, ◌∙◌, ap, subst, arith, slice_index_or, inl, inr}
-use Rattle.std.specs.Prelude.{Bool, true, false, ◌||◌, nat_le, Option, Some, None, IfSome, IsSome, Result, Ok, Err, OnErr}
+use Rattle.std.specs.Prelude.{Bool, true, false, cond, not, ◌&&◌, ◌||◌, nat_le, Option, Some, None, IfSome, IsSome, Result, Ok, Err, OnOk, OnErr}
 use Rattle.std.proofs.lemmas.Bool.Decides.{nat_tests}
 use Rattle.graph_model.specs.declared.write.Write.{Write}
 use Rattle.items.specs.declared.memory.NoMemory.{NoMemory}
@@ -10,21 +10,24 @@ use Rattle.graph_model.specs.Account.{Account}
 use Rattle.graph_model.specs.OwnerCalls.{Core, account_here, AbortsHere}
 use Rattle.run_model.specs.declared.command.Command.{Command}
 use Rattle.run_model.specs.declared.command.Command.TheVariants as commands
+use Rattle.run_model.specs.declared.command.Kernel.{Kernel}
 use Rattle.run_model.specs.Commands.{next_txn, begun_by, open_behind, IsScript}
 use Rattle.run_model.specs.Jobs.{is_empty}
+use Rattle.line_runner.specs.declared.answering.LineAnswer.{LineAnswer}
 use Rattle.line_runner.specs.declared.answering.LineTurn.{LineTurn}
+use Rattle.line_runner.specs.declared.answering.LineTurn.TheVariants.{Scanning, Answering}
 use Rattle.line_runner.specs.declared.phase.Phase.{Phase}
 use Rattle.line_runner.specs.declared.phase.Phase.TheVariants.{Between, Open, Skipping, GivenUp}
 use Rattle.line_runner.specs.declared.kept.KeptImage.{KeptImage}
 use Rattle.line_runner.specs.declared.reading.LineReading.{LineReading}
 use Rattle.line_runner.specs.Kernels.{IsKeptImage}
-use Rattle.line_runner.specs.Phases.{is_inside, IsPhase}
-use Rattle.line_runner.specs.Turns.{view_now, MayTakeNow, Calls, ReadsTimes, TakesOn, WantsOn, AreByAccount, AreExact}
+use Rattle.line_runner.specs.Phases.{is_inside, is_open, IsPhase}
+use Rattle.line_runner.specs.Turns.{view_now, MayTakeNow, Calls, ReadsTimes, AnswersLive, TakesOn, WantsOn, AreByAccount, AreExact}
 use Rattle.line_runner.specs.Lines.{given_up}
 use Rattle.line_runner.proofs.ExactLemmas.{takes_here, wants_same}
 use Rattle.job_runner.specs.declared.turn.JobTurn.{JobTurn}
 use Rattle.job_runner.specs.declared.turn.JobTurn.TheVariants as turns
-use Rattle.job_runner.specs.Progress.{Progress, left_of, has_given_up, is_over, behind, gone, GivesUpOn, IsReady, IsReadyBy, IsRolledBack, TakesTurn, TookTurn, TakesTurnOn, TookTurnOn}
+use Rattle.job_runner.specs.Progress.{Progress, left_of, has_given_up, is_over, behind, gone, runs_kernel, ComesTo, EndsTurnOn, GivesUpOn, IsReady, IsReadyBy, IsRolledBack, TakesTurn, TookTurn, TakesTurnOn, TookTurnOn, AnswersInParts, TakesInParts, TakesTurnInParts}
 
 -- ---- what is left of a script
 
@@ -125,6 +128,58 @@ module _ {S : Type 0} (e : Calls S) (old : S) (job : Progress) (going : is_over 
         job_is = is;
       }
 
+  -- the line of a kernel was answered as a whole
+  pub ran_here : job.phase ≡ Open → (kernel : Kernel) (file : List ℕ) → c ≡ commands.Run kernel file → (new : S) (next : Progress) (given : LineAnswer) → AnswersLive e old (commands.Run kernel file) given new
+      → (image : Option KeptImage) → IfSome image (IsKeptImage (view_now (e.account old))) → next ≡ behind job image (Answering given)
+      → (x : Command) (rest : List Command) → left_of job ≡ x ∷ rest → TakesTurnInParts e old job x next new
+  ran_here opened kernel file same new next given answers image kept is x rest there =
+      let equal : x ≡ commands.Run kernel file = sym (heads c x _ rest (sym at_hand ∙ there)) ∙ same in
+      record {
+        turn = Answering given;
+        takes = subst (λ y. AnswersInParts e old job.phase job.reading y given new) (sym equal)
+            (subst (λ p. AnswersInParts e old p job.reading (commands.Run kernel file) given new) (sym opened) (record { last = refl; does = answers }));
+        image = image;
+        kept = kept;
+        job_is = is;
+      }
+
+  -- and that the line runs one is known
+  pub runs_here : ((x : Command) (rest : List Command) → left_of job ≡ x ∷ rest → (is_open job.phase && runs_kernel x) ≡ true) → (job.phase ≡ Open) × (runs_kernel c ≡ true)
+  runs_here kernel = by_phase job.phase refl (kernel c (drop (suc (length job.answers)) job.commands) at_hand)
+    where
+      by_phase : (p : Phase) → job.phase ≡ p → (is_open p && runs_kernel c) ≡ true → (job.phase ≡ Open) × (runs_kernel c ≡ true)
+      by_phase Between same is = absurd (let no : false ≡ true = is in cc)
+      by_phase Open same is = (same, is)
+      by_phase Skipping same is = absurd (let no : false ≡ true = is in cc)
+      by_phase GivenUp same is = absurd (let no : false ≡ true = is in cc)
+
+-- whoever runs a kernel is the line of one
+pub is_run : (c : Command) → runs_kernel c ≡ true → (kernel : Kernel) × (file : List ℕ) × (c ≡ commands.Run kernel file)
+is_run commands.Begin is = absurd (let no : false ≡ true = is in cc)
+is_run commands.Commit is = absurd (let no : false ≡ true = is in cc)
+is_run commands.Abort is = absurd (let no : false ≡ true = is in cc)
+is_run (commands.Write w) is = absurd (let no : false ≡ true = is in cc)
+is_run (commands.Read query) is = absurd (let no : false ≡ true = is in cc)
+is_run (commands.Run kernel file) is = (kernel, file, refl)
+
+and_false : (b : Bool) → (b && false) ≡ false
+and_false true = refl
+and_false false = refl
+
+-- a turn of any other line is the same where several readers scan
+pub in_parts : {S : Type 0} (e : Calls S) (old : S) (job : Progress) (c : Command) → (is_open job.phase && runs_kernel c) ≡ false → (next : Progress) (new : S) → TakesTurnOn e old job c next new → TakesTurnInParts e old job c next new
+in_parts e old job c other next new is = record {
+  turn = is.turn;
+  takes = by_turn is.turn is.takes;
+  image = is.image;
+  kept = is.kept;
+  job_is = is.job_is;
+}
+  where
+    by_turn : (turn : LineTurn) → TakesOn e old job.phase job.reading c turn new → TakesInParts e old job.phase job.reading c turn new
+    by_turn (Scanning reading) takes = (takes.0, takes.1, sym (ap (λ p. is_open p && runs_kernel c) takes.0.is_open) ∙ other)
+    by_turn (Answering given) takes = record { last = ap (λ b. not (runs_kernel c) && b) takes.last ∙ and_false (not (runs_kernel c)); does = takes.does }
+
 -- a job that gives up on the core of one owner
 pub gives_up_on_core : {S : Type 0} (aborts : S → S → Type 0) (core : S → Core) → ((s t : S) → aborts s t → AbortsHere (core s) (core t)) → (phase : Phase) (old new : S) → GivesUpOn aborts phase old new → core new ≡ given_up (core old) phase
 gives_up_on_core aborts core here Between old new is = ap core is
@@ -190,3 +245,33 @@ rolled_back {S} e by old mid new job next phase wants gives is = record {
     by_phase Open some aborts = ap (λ (a : Account). a.start) (by.aborts_by mid new aborts).0.others
     by_phase Skipping none same = ap (λ s. (e.account s).start) same ∙ still ∙ none
     by_phase GivenUp never same = absurd never
+
+-- what the turn comes to, as it was taken and ended
+module _ {S : Type 0} (e : Calls S) (Takes : Command → Progress → S → Type 0) (old mid : S) (job between : Progress) where
+  pub comes_to : (took : Result (Unit {0}) NoMemory) → OnOk took ((c : Command) (rest : List Command) → left_of job ≡ c ∷ rest → Takes c between mid)
+      → OnErr took (WantsOn e old mid × (between ≡ record job { reading = None; image = None }))
+      → (turn : JobTurn) (next : Progress) (new : S) → EndsTurnOn e.aborts took mid between turn next new → ComesTo e Takes old job turn next new
+  comes_to (Ok done) takes wants turn next new ends =
+      subst (λ t. ComesTo e Takes old job t next new) (sym ends.0)
+      (subst (λ j. ComesTo e Takes old job (cond (is_over between) turns.Ended turns.More) j new) (sym ends.1)
+      (subst (λ s. ComesTo e Takes old job (cond (is_over between) turns.Ended turns.More) between s) (sym ends.2) (by_over (is_over between) refl)))
+    where
+      by_over : (over : Bool) → is_over between ≡ over → ComesTo e Takes old job (cond over turns.Ended turns.More) between mid
+      by_over true over = (over, takes)
+      by_over false over = (over, takes)
+  comes_to (Err wanted) takes wants turn next new ends =
+      subst (λ t. ComesTo e Takes old job t next new) (sym ends.0)
+      (mid, wants.0, subst (λ p. GivesUpOn e.aborts p mid new) (ap (λ (x : Progress). x.phase) wants.1) ends.1, ends.2 ∙ ap gone wants.1)
+
+  module _ (by : AreByAccount e) (phase : IsPhase job.phase (e.account old).start) where
+    -- where memory was wanted the transaction is still open
+    pub may_end : (took : Result (Unit {0}) NoMemory) → OnErr took (WantsOn e old mid × (between ≡ record job { reading = None; image = None })) → OnErr took (between.phase ≡ Open → IsSome (e.account mid).start)
+    may_end (Ok done) wants = tt
+    may_end (Err wanted) wants = λ is. subst IsSome (sym (wants_open e by old mid wants.0))
+        (subst (λ p. IsPhase p (e.account old).start) (sym (ap (λ (x : Progress). x.phase) wants.1) ∙ is) phase)
+
+    -- and none is then
+    pub comes_back : (turn : JobTurn) (next : Progress) (new : S) → ComesTo e Takes old job turn next new → turn ≡ turns.NoMemory → IsRolledBack job next (e.account new)
+    comes_back turn next new came wanted =
+        let gave = subst (λ t. ComesTo e Takes old job t next new) wanted came in
+        rolled_back e by old gave.0 new job next phase gave.1 gave.2 gave.3

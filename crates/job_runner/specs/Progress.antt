@@ -1,12 +1,16 @@
 -- A job under way, as its contracts see it, and the state of a run that jobs and engine have.
-use Rattle.std.specs.Prelude.{◌≡◌, ℕ, ◌≤◌, ◌<◌, Bool, true, false, ◌||◌, List, [], ◌∷◌, ◌++◌, length, drop, Option, Some, None, IfSome}
+use Rattle.std.specs.Prelude.{◌≡◌, ℕ, ◌≤◌, ◌<◌, Bool, true, false, cond, not, ◌&&◌, ◌||◌, List, [], ◌∷◌, ◌++◌, length, drop, Option, Some, None, IfSome, Result, Ok, Err}
+use Rattle.items.specs.declared.memory.NoMemory.{NoMemory}
 use Rattle.graph_model.specs.Account.{Account, IsValid}
+use Rattle.graph_model.specs.Graph.{Graph}
 use Rattle.graph_model.specs.OwnerCalls.{PassState, Core, account_here}
 use Rattle.run_model.specs.declared.command.Command.{Command}
+use Rattle.run_model.specs.declared.command.Command.TheVariants as commands
 use Rattle.run_model.specs.declared.answer.Answer.{Answer}
 use Rattle.run_model.specs.AnsweredLines.{answered_lines}
 use Rattle.run_model.specs.Commands.{begun_by, IsScript}
 use Rattle.run_model.specs.Jobs.{JobState, RunState, is_empty}
+use Rattle.line_runner.specs.declared.answering.LineAnswer.{LineAnswer}
 use Rattle.line_runner.specs.declared.answering.LineTurn.{LineTurn}
 use Rattle.line_runner.specs.declared.answering.LineTurn.TheVariants.{Scanning, Answering}
 use Rattle.line_runner.specs.declared.kept.KeptImage.{KeptImage}
@@ -19,7 +23,7 @@ use Rattle.job_runner.specs.declared.turn.JobTurn.TheVariants as turns
 use Rattle.line_runner.specs.Kernels.{IsKeptImage}
 use Rattle.line_runner.specs.Scanning.{too_many_turns, IsReading, taken_of}
 use Rattle.line_runner.specs.Phases.{is_skipping, is_inside, IsPhase, image_behind}
-use Rattle.line_runner.specs.Turns.{view_now, Calls, TakesOn, WantsOn}
+use Rattle.line_runner.specs.Turns.{view_now, goes_on_at, ReadsFurther, ReadsOn, Calls, AnswersLine, TakesOn, WantsOn}
 use Rattle.line_runner.specs.Lines.{view_here, TakesHere, given_up}
 
 pub record Progress : Type 0 where
@@ -127,14 +131,69 @@ pub record IsRolledBack (job next : Progress) (account : Account) : Type 0 where
   pub over : is_over next ≡ true
   pub closed : account.start ≡ None
 
--- what a turn comes to: the line at hand takes it, or memory was wanted, and the transaction is taken back
-abbrev pub TookTurnOn : {S : Type 0} → Calls S → S → Progress → JobTurn → Progress → S → Type 0
-TookTurnOn e old job turns.More next new = (is_over next ≡ false)
-    × ((c : Command) (rest : List Command) → left_of job ≡ c ∷ rest → TakesTurnOn e old job c next new)
-TookTurnOn e old job turns.Ended next new = (is_over next ≡ true)
-    × ((c : Command) (rest : List Command) → left_of job ≡ c ∷ rest → TakesTurnOn e old job c next new)
-TookTurnOn {S = S} e old job turns.NoMemory next new =
+-- what a turn comes to: the line at hand takes it in this way, or memory was wanted, and the transaction is taken back
+abbrev pub ComesTo : {S : Type 0} → Calls S → (Command → Progress → S → Type 0) → S → Progress → JobTurn → Progress → S
+    → Type 0
+ComesTo e Takes old job turns.More next new =
+    (is_over next ≡ false) × ((c : Command) (rest : List Command) → left_of job ≡ c ∷ rest → Takes c next new)
+ComesTo e Takes old job turns.Ended next new =
+    (is_over next ≡ true) × ((c : Command) (rest : List Command) → left_of job ≡ c ∷ rest → Takes c next new)
+ComesTo {S = S} e Takes old job turns.NoMemory next new =
     (mid : S) × WantsOn e old mid × GivesUpOn e.aborts job.phase mid new × (next ≡ gone job)
+
+-- what a turn by the calls of the engine comes to
+abbrev pub TookTurnOn : {S : Type 0} → Calls S → S → Progress → JobTurn → Progress → S → Type 0
+TookTurnOn e old job turn next new = ComesTo e (TakesTurnOn e old job) old job turn next new
+
+-- behind a turn that was taken, or that wanted memory: the job goes on or has ended, or its transaction is taken back
+abbrev pub EndsTurnOn : {S : Type 0} → (S → S → Type 0) → Result (Unit {0}) NoMemory → S → Progress → JobTurn → Progress
+    → S → Type 0
+EndsTurnOn aborts (Ok done) old job turn next new =
+    (turn ≡ cond (is_over job) turns.Ended turns.More) × (next ≡ job) × (new ≡ old)
+EndsTurnOn aborts (Err wanted) old job turn next new =
+    (turn ≡ turns.NoMemory) × GivesUpOn aborts job.phase old new × (next ≡ gone job)
+
+-- ---- one turn, where several readers scan the rows of a kernel
+
+-- the line runs a kernel
+abbrev pub runs_kernel : Command → Bool
+runs_kernel commands.Begin = false
+runs_kernel commands.Commit = false
+runs_kernel commands.Abort = false
+runs_kernel (commands.Write w) = false
+runs_kernel (commands.Read query) = false
+runs_kernel (commands.Run kernel file) = true
+
+-- so many turns of the line were taken, and this one isn't the last: a kernel's line takes one
+abbrev pub goes_on_in_parts : Graph → Bool → ℕ → Command → Bool
+goes_on_in_parts g skipping taken r = not (runs_kernel r) && goes_on_at g skipping taken r
+
+-- the last turn of a line answers it
+pub record AnswersInParts {S : Type 0} (e : Calls S) (old : S) (phase : Phase) (reading : Option LineReading)
+    (r : Command) (given : LineAnswer) (new : S) : Type 0 where
+  pub last : goes_on_in_parts (view_now (e.account old)) (is_skipping phase) (taken_of reading) r ≡ false
+  pub does : AnswersLine e old phase r given new
+
+-- one turn of a line
+abbrev pub TakesInParts : {S : Type 0} → Calls S → S → Phase → Option LineReading → Command → LineTurn → S → Type 0
+TakesInParts e old phase reading r (Scanning next) new =
+    ReadsFurther (view_now (e.account old)) phase reading r next × ReadsOn e.reads old new × (runs_kernel r ≡ false)
+TakesInParts e old phase reading r (Answering given) new = AnswersInParts e old phase reading r given new
+
+-- the line at hand takes a turn
+pub record TakesTurnInParts {S : Type 0} (e : Calls S) (old : S) (job : Progress) (c : Command) (next : Progress)
+    (new : S) : Type 0 where
+  pub turn : LineTurn
+  pub takes : TakesInParts e old job.phase job.reading c turn new
+  pub image : Option KeptImage
+  pub kept : IfSome image (IsKeptImage (view_now (e.account old)))
+  pub job_is : next ≡ behind job image turn
+
+-- what that comes to
+abbrev pub TookInParts : {S : Type 0} → Calls S → S → Progress → JobTurn → Progress → S → Type 0
+TookInParts e old job turn next new = ComesTo e (TakesTurnInParts e old job) old job turn next new
+
+-- ---- one turn, on the core of one owner
 
 -- the line at hand takes a turn, on the core of one owner
 pub record TakesTurn (old : Core) (job : Progress) (c : Command) (next : Progress) (new : Core) : Type 0 where

@@ -4,19 +4,25 @@
 //! 2. Room for a line's answer and its table is made before the engine is touched.
 //! 3. A job that ran out of memory has taken its transaction back, and has ended.
 //! 4. The image that a kernel's line has made is kept until its transaction writes or is over.
+//! 5. Where several readers scan the rows of a kernel, its line takes one turn.
 
-ghost use Rattle.std.specs.Prelude.{◌≡◌, ◌<◌, List, ◌∷◌, ◌++◌, true, false, length, slice_set, None, IsSome, IfSome, IfNone, OnOk, OnErr};
+ghost use Rattle.std.specs.Prelude.{◌≡◌, ◌<◌, ◌≤◌, ℕ, List, [], ◌∷◌, ◌++◌, ◌&&◌, true, false, length, slice_set, None, IsSome, IfSome, IfNone, OnOk, OnErr};
 ghost use Rattle.run_model.specs.declared.command.Command.{Command};
-ghost use Rattle.run_model.specs.declared.command.Command.TheVariants.{Abort};
+ghost use Rattle.run_model.specs.declared.command.Command.TheVariants.{Abort, Run};
+ghost use Rattle.run_model.specs.declared.command.Kernel.{Kernel};
+ghost use Rattle.line_runner.specs.Phases.{is_open};
 ghost use Rattle.line_runner.specs.Turns.{calls, WantsOn};
 ghost use Rattle.graph_model.specs.OwnerCalls.{account_here};
 ghost use Rattle.job_runner.specs.declared.turn.JobTurn.TheVariants as turns;
-ghost use Rattle.job_runner.specs.Progress.{new_progress, left_of, is_over, listed_table, gone, has_given_up, GivesUpOn, IsReady, IsReadyBy, IsRolledBack, TakesTurnOn, TookTurn, TookTurnOn};
+ghost use Rattle.job_runner.specs.Progress.{new_progress, left_of, is_over, listed_table, gone, has_given_up, runs_kernel, EndsTurnOn, GivesUpOn, IsReady, IsReadyBy, IsRolledBack, TakesTurnInParts, TakesTurnOn, TookInParts, TookTurn, TookTurnOn};
 
 use crate::turn::JobTurn;
 use graph_model::{Engine, NoMemory, StepEngine, VertexEngine};
 use items::RoomyItems;
-use line_runner::{KeptImage, LineReading, LineTurn, NamedTable, Phase, Tables, take_line};
+use line_runner::{
+    KeptImage, LineAnswer, LineReading, LineTurn, NamedTable, Phase, Tables, run_at_once, take_line,
+};
+use part_scan::PartScan;
 use run_model::{Answer, Command, Script};
 use std::alloc::Global;
 use std::marker::Model;
@@ -164,15 +170,27 @@ impl Job {
             TookTurnOn e engine.old self.old result self.new engine.new }
         ensures rolled_back { result ≡ turns.NoMemory → IsRolledBack self.old self.new (E.account engine.new) }
     {
-        match self.take_turn(rt, engine) {
-            Ok(()) if self.has_ended() => JobTurn::Ended,
-            Ok(()) => JobTurn::More,
-            Err(NoMemory) => {
-                // Its transaction is taken back, which takes no memory: the run ends, and no pass is left with one.
-                self.give_up(engine);
-                JobTurn::NoMemory
-            }
-        }
+        let took = self.take_turn(rt, engine);
+        self.end_turn(engine, took)
+    }
+
+    /// Takes one turn as `turn` does, but that the line of a kernel takes one turn in all: so many readers scan its
+    /// rows at once.
+    pub fn turn_parts<R: Threads + Sync, E: VertexEngine + PartScan>(
+        &mut self,
+        rt: &R,
+        engine: &mut E,
+        parts: u32,
+    ) -> JobTurn
+        requires going { is_over self.old ≡ false }
+        requires ready { IsReadyBy (E.account engine.old) self.old }
+        requires parts { (0 < parts) × (parts ≤ 32) }
+        ensures took { let e = calls E.account E.did_begin E.did_write E.did_read E.did_commit E.did_abort in
+            TookInParts e engine.old self.old result self.new engine.new }
+        ensures rolled_back { result ≡ turns.NoMemory → IsRolledBack self.old self.new (E.account engine.new) }
+    {
+        let took = self.take_in_parts(rt, engine, parts);
+        self.end_turn(engine, took)
     }
 
     /// Takes one turn on an engine of one owner.
@@ -222,11 +240,97 @@ impl Job {
                 // The image of the rows stays for the transaction's next kernel, unless this line has written or ended
                 // it.
                 let image = given.kept_behind(phase, image);
-                self.answers.push_within(given.answer);
-                self.phase = given.phase;
-                push_table(&mut self.tables, given.table);
+                self.phase = push_answer(&mut self.answers, &mut self.tables, given);
                 self.keep(None, image);
                 Ok(())
+            }
+        }
+    }
+
+    /// Takes the turn, where so many readers scan the rows of a kernel, if there is memory.
+    fn take_in_parts<R: Threads + Sync, E: VertexEngine + PartScan>(
+        &mut self,
+        rt: &R,
+        engine: &mut E,
+        parts: u32,
+    ) -> Result<(), NoMemory>
+        requires going { is_over self.old ≡ false }
+        requires ready { IsReadyBy (E.account engine.old) self.old }
+        requires parts { (0 < parts) × (parts ≤ 32) }
+        ensures ok { let e = calls E.account E.did_begin E.did_write E.did_read E.did_commit E.did_abort in
+            OnOk result ((c : Command) (rest : List Command) → left_of self.old ≡ c ∷ rest
+            → TakesTurnInParts e engine.old self.old c self.new engine.new) }
+        ensures err { let e = calls E.account E.did_begin E.did_write E.did_read E.did_commit E.did_abort in
+            OnErr result (WantsOn e engine.old engine.new
+            × (self.new ≡ record self.old { reading = None; image = None })) }
+    {
+        if self.is_at_kernel() {
+            self.run_kernel(rt, engine, parts)
+        } else {
+            self.take_turn(rt, engine)
+        }
+    }
+
+    /// Whether the line at hand runs a kernel in an open transaction.
+    fn is_at_kernel(&self) -> bool
+        requires { is_over self.now ≡ false }
+        ensures { (c : Command) (rest : List Command) → left_of self.now ≡ c ∷ rest
+            → result ≡ (is_open self.now.phase && runs_kernel c) }
+    {
+        match self.next_command() {
+            Some(command) => self.phase == Phase::Open && runs_kernel(command),
+            None => unreachable!(),
+        }
+    }
+
+    /// Answers the line at hand, which runs a kernel, if there is memory.
+    fn run_kernel<R: Threads + Sync, E: PartScan>(
+        &mut self,
+        rt: &R,
+        engine: &mut E,
+        parts: u32,
+    ) -> Result<(), NoMemory>
+        requires going { is_over self.old ≡ false }
+        requires ready { IsReadyBy (E.account engine.old) self.old }
+        requires parts { (0 < parts) × (parts ≤ 32) }
+        requires kernel { (c : Command) (rest : List Command) → left_of self.old ≡ c ∷ rest
+            → (is_open self.old.phase && runs_kernel c) ≡ true }
+        ensures ok { let e = calls E.account E.did_begin E.did_write E.did_read E.did_commit E.did_abort in
+            OnOk result ((c : Command) (rest : List Command) → left_of self.old ≡ c ∷ rest
+            → TakesTurnInParts e engine.old self.old c self.new engine.new) }
+        ensures err { let e = calls E.account E.did_begin E.did_write E.did_read E.did_commit E.did_abort in
+            OnErr result (WantsOn e engine.old engine.new
+            × (self.new ≡ record self.old { reading = None; image = None })) }
+    {
+        // What turns of the line have read is let go: it is answered now, on the image that is kept or on a new one.
+        self.reading = None;
+        let mut image = self.image.take();
+        // Before the engine is called, as for any line.
+        self.answers.reserve(1)?;
+        self.tables.reserve(1)?;
+        let command = &self.script.as_slice()[self.answers.len()];
+        let Command::Run { kernel, file } = command else {
+            unreachable!()
+        };
+        let given = run_at_once(rt, self.alloc, engine, parts, *kernel, file, &mut image)?;
+        let image = given.kept_behind(Phase::Open, image);
+        self.phase = push_answer(&mut self.answers, &mut self.tables, given);
+        self.keep(None, image);
+        Ok(())
+    }
+
+    /// Ends a turn that was taken, or that wanted memory.
+    fn end_turn<E: Engine>(&mut self, engine: &mut E, took: Result<(), NoMemory>) -> JobTurn
+        requires { OnErr took (self.old.phase ≡ Phase.Open → IsSome (E.account engine.old).start) }
+        ensures { EndsTurnOn E.did_abort took engine.old self.old result self.new engine.new }
+    {
+        match took {
+            Ok(()) if self.has_ended() => JobTurn::Ended,
+            Ok(()) => JobTurn::More,
+            Err(NoMemory) => {
+                // Its transaction is taken back, which takes no memory: the run ends, and no pass is left with one.
+                self.give_up(engine);
+                JobTurn::NoMemory
             }
         }
     }
@@ -254,6 +358,24 @@ impl Job {
     }
 }
 
+/// Appends what a line is answered, and its table if it has one, and tells the phase behind it. There has to be room.
+fn push_answer(answers: &mut RoomyItems<Answer>, tables: &mut Tables, given: LineAnswer) -> Phase
+    requires answers { 0 < answers.old.spare }
+    requires tables { 0 < tables.old.spare }
+    ensures answers { answers.new.items ≡ answers.old.items ++ given.answer ∷ [] }
+    ensures tables { tables.new.items ≡ tables.old.items ++ listed_table given.table }
+    ensures phase { result ≡ given.phase }
+{
+    let LineAnswer {
+        answer,
+        phase,
+        table,
+    } = given;
+    answers.push_within(answer);
+    push_table(tables, table);
+    phase
+}
+
 /// Appends the table of an answer, if it has one. There has to be room.
 fn push_table(tables: &mut Tables, table: Option<NamedTable>)
     requires { 0 < tables.old.spare }
@@ -262,4 +384,11 @@ fn push_table(tables: &mut Tables, table: Option<NamedTable>)
     if let Some(table) = table {
         tables.push_within(table);
     }
+}
+
+/// Whether the line runs a kernel.
+fn runs_kernel(command: &Command) -> bool
+    ensures { result ≡ runs_kernel command.now }
+{
+    matches!(command, Command::Run { .. })
 }

@@ -1,10 +1,7 @@
 -- What the calls of a line make of the core is what the definition of a run by turns says.
-use Rattle.std.proofs.Common.{◌≡◌, ℕ, ◌+◌, ◌*◌, ◌<◌, ◌≤◌, List, [], ◌∷◌, length, refl, sym, ◌∙◌, ap, subst, arith, cond}
-use Rattle.std.specs.Prelude.{Bool, true, false, ◌&&◌, nat_lt, ◌/◌, IfSome, IfNone, Option, Some, None, IsSome, unwrap_or, Result, Ok, Err, IfOk, OnOk, OnErr, slice_set}
-use Rattle.std.proofs.Common.{length-append}
+use Rattle.std.proofs.Common.{◌≡◌, ℕ, ◌+◌, ◌*◌, ◌<◌, ◌≤◌, List, [], ◌∷◌, length, refl, sym, ◌∙◌, ap, subst, cond}
+use Rattle.std.specs.Prelude.{Bool, true, false, ◌&&◌, Option, Some, None, IsSome, unwrap_or, Result, Ok, Err, IfOk, OnOk, slice_set}
 use Rattle.std.proofs.lemmas.List.{append-nil}
-use Rattle.std.proofs.lemmas.List.{length-map}
-use Rattle.std.proofs.lemmas.Bool.Decides.{nat_tests}
 use Rattle.graph_model.specs.declared.limits.TheConstants.{SPLIT_ROWS}
 use Rattle.graph_model.specs.declared.write.Write.{Write}
 use Rattle.graph_model.specs.declared.journal.Begun.{Begun}
@@ -16,10 +13,6 @@ use Rattle.graph_model.specs.Account.{Sighting}
 use Rattle.graph_model.specs.AccountSteps.{view_of, last_with}
 use Rattle.graph_model.specs.Conflict.{conflict}
 use Rattle.graph_model.specs.History.{view}
-use Rattle.graph_model.specs.Graph.{Graph}
-use Rattle.graph_model.specs.declared.row.Row.{Row}
-use Rattle.graph_model.specs.Scans.{rows_left}
-use Rattle.graph_model.specs.declared.limits.TheConstants.{SCAN_ROWS}
 use Rattle.graph_model.specs.Refused.{refused}
 use Rattle.graph_model.specs.OwnerCalls.{PassState, Core, current, with_current, account_here, name_here, open_txns, inserted_here, conflict_here, BeginsHere, WritesHereFrom, CommitsHere, CommitsHereFrom, AbortsHere, begun_pass, ended_pass, written_pass}
 use Rattle.run_model.specs.declared.answer.Answer.{Answer}
@@ -28,19 +21,13 @@ use Rattle.run_model.specs.AnsweredLines.{effect}
 use Rattle.run_model.specs.Answering.{refusal_answer, query_answer, kernel_answer}
 use Rattle.run_model.specs.declared.command.Command.TheVariants as commands
 use Rattle.run_model.specs.declared.command.Query.{Query}
-use Rattle.run_model.specs.declared.command.Query.TheVariants.{WeightOf, NeighboursOf, Counts}
 use Rattle.run_model.specs.declared.command.Kernel.{Kernel}
 use Rattle.run_model.specs.Commands.{next_txn, open_behind}
 use Rattle.run_model.specs.Run.{filing_of, txn_name}
 use Rattle.run_model.specs.Jobs.{LineResult, goes_on, writes_more, stops, skips, begins, ends, write_result, commit_result}
 use Rattle.line_runner.specs.declared.answering.LineAnswer.{LineAnswer}
-use Rattle.line_runner.specs.declared.phase.Phase.{Phase}
-use Rattle.line_runner.specs.declared.phase.Phase.TheVariants.{Between, Open, Skipping, GivenUp}
+use Rattle.line_runner.specs.declared.phase.Phase.TheVariants.{Between, Open, Skipping}
 use Rattle.run_model.specs.declared.command.Command.{Command}
-use Rattle.line_runner.specs.declared.reading.LineReading.{LineReading}
-use Rattle.line_runner.specs.declared.reading.LineReading.TheVariants as readings
-use Rattle.line_runner.specs.declared.scan.Scan.{Scan}
-use Rattle.line_runner.specs.Scanning.{IsScan, IsWhole, ScansOn, rows_of_line, IsReading, taken_by, taken_of}
 use Rattle.side_runs.specs.ByAccount.{made_behind}
 use Rattle.line_runner.specs.Phases.{phase_at, phase_behind, IsFileOn, plain}
 use Rattle.line_runner.specs.Turns.{GoesOpen, StopsOn, FinishesOn}

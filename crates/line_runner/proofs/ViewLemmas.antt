@@ -1,6 +1,6 @@
 -- What a line reads of the view: its rows, how many of them are vertices and arcs, and one vertex's targets.
 use Rattle.std.proofs.Common.{◌≡◌, ℕ, ◌+◌, ◌-◌, List, length, refl, sym, ◌∙◌, ap, subst, cond, arith}
-use Rattle.std.specs.Prelude.{◌/◌, Bool, true, false, IfSome, IsSome, unwrap_or, count_by}
+use Rattle.std.specs.Prelude.{◌/◌, Bool, true, false, Some, IfSome, IsSome, unwrap_or, count_by}
 use Rattle.std.specs.FinMap as fin_map
 use Rattle.graph_model.specs.declared.row.Row.{Row}
 use Rattle.graph_model.specs.declared.write.Write.{Write}
@@ -8,7 +8,7 @@ use Rattle.graph_model.specs.declared.write.Kind.{Kind}
 use Rattle.graph_model.specs.declared.write.Kind.TheVariants.{Directed, Undirected}
 use Rattle.graph_model.specs.declared.journal.Commit.{Commit}
 use Rattle.graph_model.specs.Account.{Account, IsOpenTxn, IsValid}
-use Rattle.graph_model.specs.AccountSteps.{ReadsBy}
+use Rattle.graph_model.specs.AccountSteps.{view_of, ReadsBy}
 use Rattle.graph_model.specs.Graph.{Graph, has_vertex, vertices_of, apply_all, IsBounded, IsSymmetric}
 use Rattle.graph_model.specs.History.{graph_at, view}
 use Rattle.graph_model.specs.Rows.{all_rows, AreRowsOf}
@@ -55,6 +55,13 @@ seen_now account valid opened =
       bounded = bounded;
       symmetric = view_symmetric_in account.kind account.seen o.0 account.own;
     })
+
+-- lists with all rows of what it sees are rows of that
+pub seen_rows : (account : Account) → IsValid account → IsSome account.start → (rows : List Row) → ((start : ℕ) → account.start ≡ Some start → rows ≡ all_rows (view_of account start)) → AreRowsOf rows (view_now account)
+seen_rows account valid opened rows all =
+    let o = some_of account.start opened in
+    let same : rows ≡ all_rows (view_now account) = all o.0 o.1 ∙ ap (λ s. all_rows (view_of account (unwrap_or s 0))) (sym o.1) in
+    subst (λ xs. AreRowsOf xs (view_now account)) (sym same) (seen_now account valid opened).rows
 
 -- whoever reads more of the journal sees the same
 pub sees_still : (old new : Account) → IsValid old → IsSome old.start → ReadsBy old new → view_now new ≡ view_now old

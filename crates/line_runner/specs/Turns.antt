@@ -1,6 +1,6 @@
 -- A turn of a line by the calls of its engine, whatever the engine is known by: the account of its pass, or the core of
 -- one owner.
-use Rattle.std.specs.Prelude.{◌≡◌, ◌⊎◌, ℕ, zero, suc, ◌+◌, ◌/◌, ◌<◌, Bool, true, false, cond, nat_lt, Option, Some, None, IfSome, IsSome, unwrap_or, Result, Ok, Err, OnOk}
+use Rattle.std.specs.Prelude.{◌≡◌, ◌⊎◌, ℕ, zero, suc, ◌+◌, ◌/◌, ◌<◌, Bool, true, false, cond, nat_lt, Option, Some, IfSome, IsSome, unwrap_or, Result, Ok, Err, OnOk}
 use Rattle.items.specs.declared.memory.NoMemory.{NoMemory}
 use Rattle.graph_model.specs.declared.limits.TheConstants.{SCAN_ROWS}
 use Rattle.graph_model.specs.declared.write.Write.{Write}
@@ -20,7 +20,6 @@ use Rattle.run_model.specs.Answering.{query_answer}
 use Rattle.run_model.specs.declared.command.Command.{Command}
 use Rattle.run_model.specs.declared.command.Command.TheVariants as commands
 use Rattle.run_model.specs.declared.command.Query.{Query}
-use Rattle.run_model.specs.declared.command.Kernel.{Kernel}
 use Rattle.run_model.specs.Commands.{IsCommand, open_behind}
 use Rattle.run_model.specs.Jobs.{scanned, skips}
 use Rattle.line_runner.specs.declared.answering.LineAnswer.{LineAnswer}
@@ -29,7 +28,7 @@ use Rattle.line_runner.specs.declared.answering.LineTurn.TheVariants.{Scanning, 
 use Rattle.line_runner.specs.declared.kernel_line.ImageTurn.{ImageTurn}
 use Rattle.line_runner.specs.declared.kernel_line.ImageTurn.TheVariants.{Further, Whole}
 use Rattle.line_runner.specs.declared.phase.Phase.{Phase}
-use Rattle.line_runner.specs.declared.phase.Phase.TheVariants.{Between, Open, Skipping, GivenUp}
+use Rattle.line_runner.specs.declared.phase.Phase.TheVariants.{Between, Open, Skipping}
 use Rattle.line_runner.specs.declared.reading.LineReading.{LineReading}
 use Rattle.line_runner.specs.declared.reading.LineReading.TheVariants as readings
 use Rattle.line_runner.specs.declared.scan.Scan.{Scan}
@@ -172,11 +171,16 @@ AnswersLive e old (commands.Run kernel file) given new =
 abbrev pub AnswersSkipped : {S : Type 0} → S → Command → LineAnswer → S → Type 0
 AnswersSkipped old r given new = (given ≡ plain answers.Skipped (phase_behind (skips r))) × (new ≡ old)
 
+-- a line was answered
+abbrev pub AnswersLine : {S : Type 0} → Calls S → S → Phase → Command → LineAnswer → S → Type 0
+AnswersLine e old phase r given new =
+    cond (is_skipping phase) (AnswersSkipped old r given new) (AnswersLive e old r given new)
+
 -- the last turn of a line answers it
 pub record AnswersOn {S : Type 0} (e : Calls S) (old : S) (phase : Phase) (reading : Option LineReading) (r : Command)
     (given : LineAnswer) (new : S) : Type 0 where
   pub last : goes_on_at (view_now (e.account old)) (is_skipping phase) (taken_of reading) r ≡ false
-  pub does : cond (is_skipping phase) (AnswersSkipped old r given new) (AnswersLive e old r given new)
+  pub does : AnswersLine e old phase r given new
 
 -- one turn of a line
 abbrev pub TakesOn : {S : Type 0} → Calls S → S → Phase → Option LineReading → Command → LineTurn → S → Type 0

@@ -2,15 +2,19 @@
 //!
 //! 1. It is kept for as long as the transaction is open and writes nothing, so it is what a new scan would give.
 
-ghost use Rattle.std.specs.Prelude.{◌≡◌, IfOk};
+ghost use Rattle.std.specs.Prelude.{◌≡◌, ◌-◌, ◌^◌, min, length, IfOk};
 ghost use Rattle.graph_model.specs.declared.write.Kind.TheVariants.{Undirected};
-ghost use Rattle.graph_model.specs.Graph.{Graph, IsSymmetric};
+ghost use Rattle.graph_model.specs.Graph.{Graph, IsBounded, IsSymmetric};
+ghost use Rattle.graph_model.specs.Rows.{AreRowsOf};
+ghost use Rattle.part_scan.specs.Parts.{rows_in};
 ghost use Rattle.line_runner.specs.Kernels.{IsKeptImage};
 ghost use Rattle.line_runner.specs.Scanning.{HasAllRows};
 
 use crate::scan::Scan;
-use graph_image::Image;
+use graph_image::{Image, PartBuilder};
 use graph_model::{Kind, NoMemory};
+use part_scan::{RowList, RowLists};
+use std::alloc::Global;
 use std::thread::Threads;
 
 /// The image of a graph, and how many rows it was made of.
@@ -30,5 +34,35 @@ impl KeptImage {
         let rows = scan.rows;
         let image = scan.into_rows().finish(rt, kind)?;
         Ok(KeptImage { image, rows })
+    }
+
+    /// The image of the graph whose rows these lists have, one behind the other, made by several threads. The rows go
+    /// as it is made.
+    pub fn of_lists<R: Threads + Sync>(
+        rt: &R,
+        alloc: Global,
+        kind: Kind,
+        lists: RowLists,
+    ) -> Result<KeptImage, NoMemory>
+        requires graph { (g : Graph) × AreRowsOf (rows_in lists) g × IsBounded g × (kind ≡ Undirected → IsSymmetric g) }
+        ensures { IfOk result (λ kept. (g : Graph) → AreRowsOf (rows_in lists) g → IsKeptImage g kept) }
+    {
+        let rows = count_rows(lists.as_slice());
+        // A place of an image is a number of 32 bits.
+        if rows > u32::MAX as u64 {
+            return Err(NoMemory);
+        }
+        let image = PartBuilder::of_lists(alloc, lists).finish(rt, kind)?;
+        Ok(KeptImage { image, rows })
+    }
+}
+
+/// How many rows the lists have, up to the last number.
+fn count_rows(lists: &[RowList]) -> u64
+    ensures { result ≡ min (length (rows_in lists.now)) (2 ^ 64 - 1) }
+{
+    match lists {
+        [] => 0,
+        [list, rest @ ..] => (list.len() as u64).saturating_add(count_rows(rest)),
     }
 }

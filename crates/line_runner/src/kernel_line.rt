@@ -1,10 +1,11 @@
-//! One turn of a kernel's line.
+//! A kernel's line, turn by turn or as a whole.
 //!
 //! 1. A kernel runs on the image of all rows that its transaction sees. The first one scans the rows, and the
 //!    image is made with the last of them; it is kept for the next ones.
-//! 2. On an image that is kept a line takes as many turns as on rows that it scans.
+//! 2. Turn by turn a line takes as many turns on an image that is kept as on rows that it scans.
+//! 3. As a whole it takes one turn, and several readers scan the rows at once.
 
-ghost use Rattle.std.specs.Prelude.{◌≡◌, ℕ, List, Option, Some, IfSome, IsSome, IfOk, OnOk, OnErr};
+ghost use Rattle.std.specs.Prelude.{◌≡◌, ◌<◌, ◌≤◌, ℕ, List, Option, Some, IfSome, IsSome, IfOk, OnOk, OnErr};
 ghost use Rattle.graph_model.specs.Account.{IsValid};
 ghost use Rattle.graph_model.specs.Graph.{Graph};
 ghost use Rattle.run_model.specs.declared.command.Kernel.{Kernel};
@@ -13,7 +14,7 @@ ghost use Rattle.run_model.specs.Commands.{root_of};
 ghost use Rattle.line_runner.specs.Kernels.{IsKeptImage, IsKernelImage};
 ghost use Rattle.line_runner.specs.Scanning.{IsReading, IsScan, taken_of};
 ghost use Rattle.line_runner.specs.Phases.{AnswersKernel};
-ghost use Rattle.line_runner.specs.Turns.{view_now, MayTakeNow, ReadsImage, ReadsOn, TakesOn, calls};
+ghost use Rattle.line_runner.specs.Turns.{view_now, AnswersLive, MayTakeNow, ReadsImage, ReadsOn, TakesOn, calls};
 
 use crate::answering::{LineAnswer, LineTurn};
 use crate::kept::KeptImage;
@@ -23,6 +24,7 @@ use crate::scan::Scan;
 use crate::table::{NamedTable, copy_of, kernel_table};
 use graph_image::Image;
 use graph_model::{Engine, KernelRefusal, Kind, NoMemory, SCAN_ROWS};
+use part_scan::PartScan;
 use run_model::{Answer, Kernel, Name};
 use std::alloc::Global;
 use std::thread::Threads;
@@ -134,6 +136,55 @@ fn replay(kept: KeptImage, turns: u64) -> ImageTurn
     } else {
         ImageTurn::Whole { kept }
     }
+}
+
+/// Answers a kernel's line as a whole. Where no image is kept, so many readers scan the rows for a new one.
+pub fn run_at_once<R: Threads + Sync, E: PartScan>(
+    rt: &R,
+    alloc: Global,
+    engine: &mut E,
+    parts: u32,
+    kernel: Kernel,
+    file: &Name,
+    image: &mut Option<KeptImage>,
+) -> Result<LineAnswer, NoMemory>
+    requires valid { IsValid (E.account engine.old) }
+    requires current { IsSome (E.account engine.old).start }
+    requires parts { (0 < parts) × (parts ≤ 32) }
+    requires kept { IfSome image.old (IsKeptImage (view_now (E.account engine.old))) }
+    ensures answers { let r = commands.Run kernel file.now in
+        let e = calls E.account E.did_begin E.did_write E.did_read E.did_commit E.did_abort in
+        IfOk result (λ given. AnswersLive e engine.old r given engine.new) }
+    ensures kept { OnOk result (IfSome image.new (IsKeptImage (view_now (E.account engine.old)))) }
+    ensures err { OnErr result (ReadsOn E.did_read engine.old engine.new) }
+{
+    let kept = image_at_once(rt, alloc, engine, parts, image.take())?;
+    let given = answer_kernel(rt, alloc, engine.kind(), kernel, file, &kept.image)?;
+    *image = Some(kept);
+    Ok(given)
+}
+
+/// The image that is kept, else that of all rows, which so many readers scan.
+fn image_at_once<R: Threads + Sync, E: PartScan>(
+    rt: &R,
+    alloc: Global,
+    engine: &mut E,
+    parts: u32,
+    image: Option<KeptImage>,
+) -> Result<KeptImage, NoMemory>
+    requires valid { IsValid (E.account engine.old) }
+    requires current { IsSome (E.account engine.old).start }
+    requires parts { (0 < parts) × (parts ≤ 32) }
+    requires kept { IfSome image (IsKeptImage (view_now (E.account engine.old))) }
+    ensures is { IfOk result (IsKeptImage (view_now (E.account engine.old))) }
+    ensures did { ReadsOn E.did_read engine.old engine.new }
+{
+    if let Some(kept) = image {
+        return Ok(kept);
+    }
+    let kind = engine.kind();
+    let lists = engine.scan_parts(parts)?;
+    KeptImage::of_lists(rt, alloc, kind, lists)
 }
 
 /// Runs a kernel on the image of a graph, and answers its line.

@@ -1,8 +1,10 @@
 -- What a read learns of a block, should its second load find the first word again.
 use Rattle.std.specs.Prelude.{◌≡◌, ℕ, ◌+◌, ◌*◌, true, false, List, [], length, slice_get, Option, Some}
 use Rattle.atomic_table.specs.declared.shared.Seat.{Seat}
+use Rattle.atomic_table.specs.Seated.{TableId}
 use Rattle.graph_model.specs.declared.row.Key.{Key}
 use Rattle.graph_model.specs.declared.row.Row.{Row}
+use Rattle.txn_manager.specs.declared.config.Config.{Config}
 use Rattle.pass_steps.specs.VersionSegment.Keyed.{IsPlaceBy}
 use Rattle.pass_steps.specs.VersionSegment.Resting.{word_rows}
 use Rattle.pass_steps.specs.VersionSegment.Rows.{VersionedRows}
@@ -10,11 +12,17 @@ use Rattle.pass_steps.specs.CellsModel.BlockLaws.{row_key}
 use Rattle.pass_steps.specs.CellsModel.Reads.{AreLoadedFrom, Reading}
 use Rattle.pass_steps.specs.CellsModel.Words.{Spells}
 use Rattle.pass_steps.specs.RuleModel.Sight.{Sight, with_reading}
-use Rattle.pass_steps.specs.StoreWords.Reads.{word_read}
+use Rattle.pass_steps.specs.StoreWords.Reads.{IsBlockOf, word_read}
+use Rattle.optimistic_read.specs.declared.block.BlockRead.{BlockRead}
 use Rattle.optimistic_read.specs.declared.decode.Head.{Head}
 use Rattle.optimistic_read.specs.declared.decode.LookedUp.{LookedUp}
 
 -- ---- a read under way
+
+-- a seat of this table may load words of its block
+pub record CanLoad (z : Config) (table : TableId) (seat : Seat (Unit {0}) Sight) (read : BlockRead) : Type 0 where
+  pub same : seat.table_id ≡ table
+  pub block : IsBlockOf z read.block
 
 -- its version word was found, and nothing was loaded since
 abbrev pub begun_read : ℕ → ℕ → Option Reading

@@ -1,5 +1,5 @@
 -- What a try to read without a latch answers, and what it leaves of its pass.
-use Rattle.std.specs.Prelude.{◌≡◌, ◌≢◌, ◌⊎◌, ℕ, ◌%◌, Bool, ◌&&◌, ◌||◌, not, cond, is_some, List, ◌∷◌, Option, Some, None}
+use Rattle.std.specs.Prelude.{◌≡◌, ◌≢◌, ◌⊎◌, ℕ, ◌<◌, ◌%◌, Bool, ◌&&◌, ◌||◌, not, cond, is_some, List, ◌∷◌, Option, Some, None}
 use Rattle.atomic_table.specs.declared.shared.Seat.{Seat}
 use Rattle.graph_model.specs.declared.row.Key.{Key}
 use Rattle.graph_model.specs.Graph.{Graph, has_vertex}
@@ -9,14 +9,23 @@ use Rattle.store_model.specs.Stamped.{StampedVersions}
 use Rattle.pass_steps.specs.VersionSegment.Resting.{newest_value}
 use Rattle.pass_steps.specs.VersionSegment.Rows.{VersionedRows, is_empty, versions_at}
 use Rattle.pass_steps.specs.StoreRelation.Passes.{PassState, name_at}
+use Rattle.pass_steps.specs.StoreRelationDeclared.stage.Stage.TheVariants.{Open}
 use Rattle.pass_steps.specs.CellsModel.Indexed.{covers}
 use Rattle.pass_steps.specs.RuleModel.BlockSteps.{GiveView}
-use Rattle.pass_steps.specs.RuleModel.Sight.{FoundWord, Sight}
+use Rattle.pass_steps.specs.RuleModel.Sight.{FoundWord, Sight, cells_of}
 use Rattle.pass_steps.specs.StoreRuleDeclared.store.Pass.{Pass}
 use Rattle.pass_steps.specs.StoreRuleDeclared.store.Store.{Store}
-use Rattle.pass_steps.specs.Passes.{state_of}
+use Rattle.pass_steps.specs.Passes.{IsPassOf, state_of}
 use Rattle.optimistic_read.specs.declared.tried.Tried.{Tried}
 use Rattle.optimistic_read.specs.declared.tried.Tried.TheVariants.{Value, Busy, Chained, Moved}
+
+-- ---- who may try
+
+-- the pass has an open transaction, and the store has the cell
+pub record MayTry (store : Store) (pass : Pass) (cell : ℕ) : Type 0 where
+  pub of : IsPassOf store pass
+  pub opened : (state_of pass).stage ≡ Open
+  pub inside : cell < cells_of store.accounts.config
 
 -- ---- what contents make of a key
 

@@ -5,9 +5,9 @@
 
 ghost use Rattle.std.specs.Prelude.{◌≡◌, ◌≤◌, ◌<◌, ◌+◌};
 ghost use Rattle.pass_steps.specs.CellsModel.Words.{block_words};
-ghost use Rattle.pass_steps.specs.StoreWords.Reads.{IsBlockOf, IsReadOf};
+ghost use Rattle.pass_steps.specs.StoreWords.Reads.{IsReadOf};
 ghost use Rattle.pass_steps.specs.StoreWords.Steps.{Knows};
-ghost use Rattle.optimistic_read.specs.Reads.{IsHead, IsLookedUp, IsReadingOn, IsSearched, StillReads, begun_read, key_read, row_read};
+ghost use Rattle.optimistic_read.specs.Reads.{CanLoad, IsHead, IsLookedUp, IsReadingOn, IsSearched, StillReads, begun_read, key_read, row_read};
 
 use crate::decode::{Head, LookedUp};
 use graph_model::{Key, Row};
@@ -24,8 +24,7 @@ pub struct BlockRead {
 
 /// Loads what a look-up of the key needs: 5 words, two for each row that is looked at, and three of the last one.
 pub fn look_up(accounts: &Accounts, seat: &mut Account, read: BlockRead, key: Key) -> LookedUp
-    requires table { seat.old.table_id ≡ accounts.now.table.shared.table_id }
-    requires block { IsBlockOf accounts.now.config read.block }
+    requires load { CanLoad accounts.now.config accounts.now.table.shared.table_id seat.old read }
     requires begun { seat.old.me.0.reads.reading ≡ begun_read read.block.cell read.first }
     ensures still { StillReads seat.old seat.new }
     ensures known { IsReadingOn read.block.cell read.first seat.new.me.0 (IsLookedUp result key) }
@@ -45,8 +44,7 @@ pub fn look_up(accounts: &Accounts, seat: &mut Account, read: BlockRead, key: Ke
 
 /// Loads the number of rows and the fence keys.
 pub(crate) fn load_head(accounts: &Accounts, seat: &mut Account, read: BlockRead) -> Head
-    requires table { seat.old.table_id ≡ accounts.now.table.shared.table_id }
-    requires block { IsBlockOf accounts.now.config read.block }
+    requires load { CanLoad accounts.now.config accounts.now.table.shared.table_id seat.old read }
     requires begun { seat.old.me.0.reads.reading ≡ begun_read read.block.cell read.first }
     ensures still { StillReads seat.old seat.new }
     ensures few { result.count ≤ 32 }
@@ -72,8 +70,7 @@ pub(crate) fn search(
     head: Head,
     key: Key,
 ) -> u32
-    requires table { seat.old.table_id ≡ accounts.now.table.shared.table_id }
-    requires block { IsBlockOf accounts.now.config read.block }
+    requires load { CanLoad accounts.now.config accounts.now.table.shared.table_id seat.old read }
     requires few { head.count ≤ 32 }
     requires reading { IsReadingOn read.block.cell read.first seat.old.me.0 (IsHead head) }
     ensures still { StillReads seat.old seat.new }
@@ -98,8 +95,7 @@ pub(crate) fn search(
 
 /// Loads the row at a place.
 pub(crate) fn load_row(accounts: &Accounts, seat: &mut Account, read: BlockRead, place: u32) -> Row
-    requires table { seat.old.table_id ≡ accounts.now.table.shared.table_id }
-    requires block { IsBlockOf accounts.now.config read.block }
+    requires load { CanLoad accounts.now.config accounts.now.table.shared.table_id seat.old read }
     requires place { place < 32 }
     requires reading { IsReadOf seat.old.me.0 read.block.cell }
     ensures loaded { Knows seat.old seat.new (row_read seat.old.me.0 place result) }
@@ -112,8 +108,7 @@ pub(crate) fn load_row(accounts: &Accounts, seat: &mut Account, read: BlockRead,
 
 /// Loads a key, whose second word follows its first one.
 fn load_key(accounts: &Accounts, seat: &mut Account, read: BlockRead, word: u32) -> Key
-    requires table { seat.old.table_id ≡ accounts.now.table.shared.table_id }
-    requires block { IsBlockOf accounts.now.config read.block }
+    requires load { CanLoad accounts.now.config accounts.now.table.shared.table_id seat.old read }
     requires word { (1 ≤ word) × (word + 1 < block_words) }
     requires reading { IsReadOf seat.old.me.0 read.block.cell }
     ensures loaded { Knows seat.old seat.new (key_read seat.old.me.0 word result) }

@@ -11,8 +11,8 @@ ghost use Rattle.pass_steps.specs.RuleModel.Sight.{HasPass, cells_of};
 ghost use Rattle.pass_steps.specs.StoreRelation.Passes.{PassState};
 ghost use Rattle.pass_steps.specs.StoreRelationDeclared.stage.Stage.TheVariants.{Open};
 ghost use Rattle.pass_steps.specs.StoreWords.Reads.{HasOpenPass};
-ghost use Rattle.pass_steps.specs.Passes.{IsPassOf, state_of};
-ghost use Rattle.optimistic_read.specs.Tried.{IsTried, IsValueOf, OnlyReads, SeatReads, vertex_value, view_in};
+ghost use Rattle.pass_steps.specs.Passes.{state_of};
+ghost use Rattle.optimistic_read.specs.Tried.{IsTried, IsValueOf, MayTry, OnlyReads, SeatReads, vertex_value, view_in};
 
 use crate::block::{BlockRead, look_up};
 use crate::decode::decode;
@@ -23,9 +23,7 @@ use pass_steps::below::{Account, Accounts, Block, Pass, Store};
 /// Tries to read whether the open transaction sees a vertex, whose value is 0. It makes loads alone, takes no latch and
 /// no memory, and waits for nobody.
 pub fn try_has_vertex(store: &Store, pass: &mut Pass, route: &Route, v: u64) -> Tried
-    requires pass { IsPassOf store.now pass.old }
-    requires opened { (state_of pass.old).stage ≡ Open }
-    requires cell { route.now.cell < cells_of store.now.accounts.config }
+    requires may { MayTry store.now pass.old route.now.cell }
     requires within { v ≤ MAX_ID }
     ensures reads { OnlyReads pass.old pass.new }
     ensures tried { IsTried store.now.accounts.config pass.old.number (state_of pass.old)
@@ -38,9 +36,7 @@ pub fn try_has_vertex(store: &Store, pass: &mut Pass, route: &Route, v: u64) -> 
 /// Tries to read the weight of an arc that the open transaction sees. It makes loads alone, takes no latch and no
 /// memory, and waits for nobody.
 pub fn try_weight(store: &Store, pass: &mut Pass, route: &Route, u: u64, v: u64) -> Tried
-    requires pass { IsPassOf store.now pass.old }
-    requires opened { (state_of pass.old).stage ≡ Open }
-    requires cell { route.now.cell < cells_of store.now.accounts.config }
+    requires may { MayTry store.now pass.old route.now.cell }
     requires source_within { u ≤ MAX_ID }
     requires target_within { v ≤ MAX_ID }
     ensures reads { OnlyReads pass.old pass.new }
@@ -54,9 +50,7 @@ pub fn try_weight(store: &Store, pass: &mut Pass, route: &Route, u: u64, v: u64)
 /// Tries to read what the open transaction sees at a key: a weight of an arc, or 0 of a vertex. It makes loads alone,
 /// takes no latch and no memory, and waits for nobody.
 pub fn try_key(store: &Store, pass: &mut Pass, route: &Route, key: Key) -> Tried
-    requires pass { IsPassOf store.now pass.old }
-    requires opened { (state_of pass.old).stage ≡ Open }
-    requires cell { route.now.cell < cells_of store.now.accounts.config }
+    requires may { MayTry store.now pass.old route.now.cell }
     ensures reads { OnlyReads pass.old pass.new }
     ensures tried { IsTried store.now.accounts.config pass.old.number (state_of pass.old)
         pass.old.account.me.0 pass.new.account.me.0 route.now.cell key result }

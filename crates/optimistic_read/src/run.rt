@@ -6,8 +6,7 @@
 
 ghost use Rattle.std.specs.Prelude.{◌≡◌, ◌≤◌, ◌<◌, ◌&&◌, not, true};
 ghost use Rattle.graph_model.specs.Rows.{is_below, is_between};
-ghost use Rattle.pass_steps.specs.StoreWords.Reads.{IsBlockOf};
-ghost use Rattle.optimistic_read.specs.Reads.{IsHead, IsReadingOn, IsSearched, StillReads, begun_read};
+ghost use Rattle.optimistic_read.specs.Reads.{CanLoad, IsHead, IsReadingOn, IsSearched, StillReads, begun_read};
 ghost use Rattle.optimistic_read.specs.Runs.{IsRunLoaded};
 
 use crate::block::{BlockRead, load_head, load_row, search};
@@ -26,8 +25,7 @@ pub fn load_run(
     until: Key,
     rows: &mut Rows64,
 ) -> LoadedRun
-    requires table { seat.old.table_id ≡ accounts.now.table.shared.table_id }
-    requires block { IsBlockOf accounts.now.config read.block }
+    requires load { CanLoad accounts.now.config accounts.now.table.shared.table_id seat.old read }
     requires begun { seat.old.me.0.reads.reading ≡ begun_read read.block.cell read.first }
     ensures still { StillReads seat.old seat.new }
     ensures known { IsReadingOn read.block.cell read.first seat.new.me.0
@@ -55,8 +53,7 @@ fn load_rows(
     until: Key,
     rows: &mut Rows64,
 ) -> Stop
-    requires table { seat.old.table_id ≡ accounts.now.table.shared.table_id }
-    requires block { IsBlockOf accounts.now.config read.block }
+    requires load { CanLoad accounts.now.config accounts.now.table.shared.table_id seat.old read }
     requires few { head.count ≤ 32 }
     requires holds { is_between head.low head.high from ≡ true }
     requires reading { IsReadingOn read.block.cell read.first seat.old.me.0 (IsHead head) }
@@ -96,8 +93,7 @@ fn first_place(
     head: Head,
     from: Key,
 ) -> u32
-    requires table { seat.old.table_id ≡ accounts.now.table.shared.table_id }
-    requires block { IsBlockOf accounts.now.config read.block }
+    requires load { CanLoad accounts.now.config accounts.now.table.shared.table_id seat.old read }
     requires few { head.count ≤ 32 }
     requires reading { IsReadingOn read.block.cell read.first seat.old.me.0 (IsHead head) }
     ensures still { StillReads seat.old seat.new }

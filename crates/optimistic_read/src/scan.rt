@@ -8,9 +8,9 @@ ghost use Rattle.pass_steps.specs.RuleModel.Sight.{HasPass, cells_of};
 ghost use Rattle.pass_steps.specs.StoreRelation.Passes.{PassState};
 ghost use Rattle.pass_steps.specs.StoreRelationDeclared.stage.Stage.TheVariants.{Open};
 ghost use Rattle.pass_steps.specs.StoreWords.Reads.{HasOpenPass};
-ghost use Rattle.pass_steps.specs.Passes.{IsPassOf, state_of};
+ghost use Rattle.pass_steps.specs.Passes.{state_of};
 ghost use Rattle.optimistic_read.specs.Runs.{IsRun, IsTriedRun};
-ghost use Rattle.optimistic_read.specs.Tried.{OnlyReads, SeatReads, view_in};
+ghost use Rattle.optimistic_read.specs.Tried.{MayTry, OnlyReads, SeatReads, view_in};
 
 use crate::block::BlockRead;
 use crate::decode::decode_run;
@@ -31,9 +31,7 @@ pub fn try_run(
     until: Key,
     rows: &mut Rows64,
 ) -> TriedRun
-    requires pass { IsPassOf store.now pass.old }
-    requires opened { (state_of pass.old).stage ≡ Open }
-    requires cell { route.now.cell < cells_of store.now.accounts.config }
+    requires may { MayTry store.now pass.old route.now.cell }
     requires ahead { is_below from until ≡ true }
     ensures reads { OnlyReads pass.old pass.new }
     ensures tried { IsTriedRun store.now.accounts.config pass.old.number (state_of pass.old)

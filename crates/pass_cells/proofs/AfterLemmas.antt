@@ -1,6 +1,6 @@
 -- What a pass knows of the cells in hand once a step has made its view know their rows.
 use Rattle.std.proofs.Common.{◌≡◌, ℕ, suc, ◌<◌, List, [], ◌∷◌, ◌++◌, length, refl, sym, ◌∙◌, ap, subst, cond, arith, inl, inr, Some}
-use Rattle.std.specs.Prelude.{Bool, true, false, ◌==◌, ◌||◌}
+use Rattle.std.specs.Prelude.{Bool, true, false, ◌==◌, ◌||◌, map, slice_get}
 use Rattle.std.specs.List.{AllByRecursion}
 use Rattle.std.specs.FinMap.Entries.{find}
 use Rattle.atomic_table.specs.declared.shared.Seat.{Seat}
@@ -11,11 +11,12 @@ use Rattle.txn_manager.specs.declared.config.Config.{Config}
 use Rattle.seat_views.specs.Keeping.{kept_at}
 use Rattle.seat_views.proofs.NumberLemmas.{kept-append, none_or_some}
 use Rattle.store_model.specs.Stamped.{StampedVersions}
-use Rattle.row_writes.specs.VersionSegment.Rows.{VersionedRows, IsSameSegment, IsSegment, or_nothing, versions_at}
+use Rattle.row_writes.specs.VersionSegment.Resting.{word_row, word_rows}
+use Rattle.row_writes.specs.VersionSegment.Rows.{VersionedRows, IsSegment, or_nothing, versions_at}
 use Rattle.store_rule.specs.StoreRelation.Passes.{PassState, fresh_pass}
 use Rattle.store_rule.specs.CellsModel.Cells.{CellState}
 use Rattle.store_rule.specs.CellsModel.Indexed.{covers}
-use Rattle.store_rule.specs.CellsModel.Words.{HasSmallValues, HasSmallWeights}
+use Rattle.store_rule.specs.CellsModel.Words.{HasSmallValues, HasSmallWeights, spelled}
 use Rattle.store_rule.specs.StoreWords.Spelling.{IsUntouched}
 use Rattle.store_rule.specs.RuleModel.Sight.{HasCell, Sight, cells_of, with_rows}
 use Rattle.latch_table.specs.declared.sight.LatchSight.{LatchSight}
@@ -30,7 +31,7 @@ use Rattle.pass_cells.specs.Holding.{AreKnown, Holds, IsKnown, IsLatchOf, number
 use Rattle.pass_cells.specs.Taken.{AreApart, AreFrom, KeepsCell, KeepCells, cell_at, counted, has_cell, is_taken}
 use Rattle.pass_cells.proofs.CellLemmas.{IsAmong, covers_same}
 use Rattle.pass_cells.proofs.SmallLemmas.{small_rows}
-use Rattle.pass_cells.proofs.StepLemmas.{apart_kept, from_kept, length_kept, news_taken, numbers_kept, pair_of, same_spells, state_is, taken_kept, unique_cell}
+use Rattle.pass_cells.proofs.StepLemmas.{apart_kept, from_kept, length_kept, news_taken, numbers_kept, pair_of, state_is, taken_kept, unique_cell}
 
 -- ---- all rows that are there are known
 
@@ -181,18 +182,20 @@ module _ (z : Config) (v : Sight) (ts us : List TakenCell) (known : AreKnown z v
         untouched = λ e.
             let stays = was.kept.same e in
             let free = was.known.untouched stays.0 in
-            let chain : IsSameSegment was.known.state.segment u.held.value =
-            record {
-              low = stays.1.low ∙ was.known.same.low;
-              high = stays.1.high
-                  ∙ was.known.same.high;
-              rows = stays.1.rows ∙ was.known.same.rows;
-            } in
+            let low : u.held.value.low ≡ was.known.state.segment.low = was.kept.low ∙ was.known.same.low in
+            let high : u.held.value.high ≡ was.known.state.segment.high = was.kept.high ∙ was.known.same.high in
+            let words : word_rows u.held.value ≡ word_rows was.known.state.segment =
+            stays.1 ∙ ap (map word_row) was.known.same.rows in
             subst (λ (c : CellState). IsUntouched (record c { segment = u.held.value })) (sym is)
             (record {
               quiet = free.quiet;
-              spells = same_spells was.known.state.block was.known.state.segment
-                  u.held.value chain free.spells;
+              spells = record {
+                wide = free.spells.wide;
+                words = λ i n at. free.spells.words i n
+                    ((λ j. slice_get (spelled (sym low j) (sym high j) (sym words j)) i) ∙ at);
+                sound = was.kept.sound was.known.sound;
+                small = small u among;
+              };
             });
         count = refl;
       }

@@ -25,7 +25,7 @@ use Rattle.pass_cells.specs.Changes.{StampsRows, news_of, state_of}
 use Rattle.pass_cells.proofs.AfterLemmas.{all_small, partner}
 use Rattle.pass_cells.proofs.ChangeLemmas.{stamped_is, unstamped_is}
 use Rattle.pass_cells.specs.Holding.{AreKnown}
-use Rattle.pass_cells.specs.Taken.{AreFrom, IsPlace, KeepCells, cell_at, counted, end_from, has_cell, held_rows}
+use Rattle.pass_cells.specs.Taken.{AreFrom, IsPlace, KeepCells, cell_at, changes_words, counted, end_from, has_cell, held_rows}
 use Rattle.pass_cells.proofs.CellLemmas.{IsAmong, set_at}
 use Rattle.pass_cells.proofs.ReserveLemmas as reserving
 use Rattle.pass_cells.proofs.TakenLemmas as changing
@@ -103,7 +103,7 @@ mixed i ts = counted (take i ts) ++ drop i ts
 
 pub count_more : (ts : List TakenCell) (i j : ℕ) (t : TakenCell) (n : ℕ) → j ≡ i + 1
     → slice_get (mixed i ts) i ≡ Some t → n ≡ length t.held.value.rows
-    → slice_set (mixed i ts) i (record { held = t.held; rows = n }) ≡ mixed j ts
+    → slice_set (mixed i ts) i (record { held = t.held; rows = n; words_changed = t.words_changed }) ≡ mixed j ts
 count_more [] zero j t n next e is = cc
 count_more [] (suc i) j t n next e is = cc
 count_more (y ∷ ys) zero zero t n next e is = absurd (omega (arith, next))
@@ -113,6 +113,7 @@ count_more (y ∷ ys) zero (suc zero) t n next e is =
       held = (sym same k).held;
       rows =
           (is ∙ ap (λ (x : TakenCell). length x.held.value.rows) (sym same)) k;
+      words_changed = (sym same k).words_changed;
     } ∷ ys
 count_more (y ∷ ys) zero (suc (suc j)) t n next e is = absurd (omega (arith, next))
 count_more (y ∷ ys) (suc i) zero t n next e is = absurd (omega (arith, next))
@@ -149,11 +150,11 @@ module _ (ts : List TakenCell) (t u : TakenCell) (key : Key) (place : ℕ) (is :
       (reserving.spare_there ts t u key place is there has kept same spare four)
 
   pub reserve_keeps : IsSameSegment t.held.value u.held.value → t.held.value.spare ≤ u.held.value.spare
-      → u.held.cell ≡ t.held.cell → u.held.changed ≡ t.held.changed
+      → u.held.cell ≡ t.held.cell → u.held.changed ≡ t.held.changed → u.words_changed ≡ t.words_changed
       → KeepCells ts (slice_set ts place u)
-  reserve_keeps same spare cell marks =
+  reserve_keeps same spare cell stays marks =
       subst (KeepCells ts) (sym (set_at ts key place u is))
-      (reserving.keeps ts t u key place is there has kept same spare cell marks)
+      (reserving.keeps ts t u key place is there has kept same spare cell stays marks)
 
   module _ (change : RowChange) (by : TxnName) (sound : IsSegment t.held.value) (sound' : IsSegment u.held.value)
       (may : MayChange change by key t.held.value)
@@ -163,10 +164,11 @@ module _ (ts : List TakenCell) (t u : TakenCell) (key : Key) (place : ℕ) (is :
     change_done = subst (λ l. Changes change by (held_rows ts) (held_rows l) key) (sym (set_at ts key place u is))
         (changing.changes change by ts t u key place is there has kept sound sound' may step spare)
 
-    pub change_keeps : u.held.cell ≡ t.held.cell → u.held.changed ≡ true → KeepCells ts (slice_set ts place u)
-    change_keeps cell marked =
+    pub change_keeps : u.held.cell ≡ t.held.cell → u.held.changed ≡ true → u.words_changed ≡ (changes_words change || t.words_changed)
+        → KeepCells ts (slice_set ts place u)
+    change_keeps cell set marked =
         subst (KeepCells ts) (sym (set_at ts key place u is))
-        (changing.keeps change by ts t u key place is there has kept sound sound' may step spare cell marked)
+        (changing.keeps change by ts t u key place is there has kept sound sound' may step spare cell set marked)
 
 -- ---- values that may be stored
 

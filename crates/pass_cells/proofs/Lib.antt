@@ -1,4 +1,5 @@
 pub mod RowLemmas
+pub mod WordLemmas
 pub mod CellLemmas
 pub mod TakenLemmas
 pub mod SmallLemmas

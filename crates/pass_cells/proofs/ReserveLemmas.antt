@@ -1,6 +1,6 @@
 -- Cells in hand whose rows are as they were.
 use Rattle.std.proofs.Common.{◌≡◌, ℕ, zero, suc, ◌+◌, ◌-◌, ◌<◌, ◌≤◌, List, [], ◌∷◌, length, refl, sym, ◌∙◌, ap, subst, cond, arith, inl, inr, Option, Some, None}
-use Rattle.std.specs.Prelude.{Bool, true, false, not, is_some, slice_get}
+use Rattle.std.specs.Prelude.{Bool, true, false, not, is_some, map, slice_get}
 use Rattle.std.specs.List.{AllByRecursion}
 use Rattle.std.specs.Ordering.{eq_by_cmp}
 use Rattle.std.specs.FinMap.Entries.{find, same_entries}
@@ -12,6 +12,7 @@ use Rattle.graph_model.proofs.OrderLemmas.{key_tie, keys_exact, keys_total}
 use Rattle.graph_model.proofs.TestLemmas.{never}
 use Rattle.seat_views.proofs.NumberLemmas.{some_is}
 use Rattle.store_model.specs.Stamped.{StampedVersions}
+use Rattle.row_writes.specs.VersionSegment.Resting.{word_row}
 use Rattle.row_writes.specs.VersionSegment.Rows.{VersionedRows, IsSameSegment, IsSegment, is_nothing, nothing, or_nothing, versions_at}
 use Rattle.row_writes.specs.Held.{Reserves}
 use Rattle.row_writes.proofs.KeyLemmas.{key_eq, key_self}
@@ -130,14 +131,15 @@ module _ (ts : List TakenCell) (t u : TakenCell) (key : Key) (place : ℕ) (is :
     | inr h ↦ never (same_key key key) (key_self key) h.1
   ]
 
-  pub keeps : u.held.cell ≡ t.held.cell → u.held.changed ≡ t.held.changed → KeepCells ts us
-  keeps cell marks = kept_others key u ts t place is there (record {
+  pub keeps : u.held.cell ≡ t.held.cell → u.held.changed ≡ t.held.changed → u.words_changed ≡ t.words_changed → KeepCells ts us
+  keeps cell stays marks = kept_others key u ts t place is there (record {
     cell = cell;
     rows = kept;
     low = same.low;
     high = same.high;
     sound = same_sound t.held.value u.held.value same;
-    same = λ e. (sym marks ∙ e, same);
+    unmarked = λ e. (sym stays ∙ e, same);
+    same = λ e. (sym marks ∙ e, ap (map word_row) same.rows);
   })
 
 -- ---- what is known of them

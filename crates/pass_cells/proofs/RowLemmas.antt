@@ -88,7 +88,7 @@ row_count c key vs sound = go (is_nothing vs) (is_some (find key_cmp key c.rows)
         count false n h = omega (arith, h)
 
 -- a row that is touched is something
-touched_is_something : (by : TxnName) (vs : StampedVersions) → is_nothing vs ≡ false
+pub touched_is_something : (by : TxnName) (vs : StampedVersions) → is_nothing vs ≡ false
     → is_nothing (touched by vs) ≡ false
 touched_is_something by vs some = pairs (is_empty vs.pairs) refl
   where

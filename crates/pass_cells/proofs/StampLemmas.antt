@@ -20,17 +20,10 @@ use Rattle.pass_cells.specs.Changes.{StampsRows}
 use Rattle.pass_cells.specs.Taken.{IsPlace, KeepCells, cell_at, has_cell, held_rows, rows_come}
 use Rattle.pass_cells.proofs.CellLemmas.{at_place, either_cell, kept_others, more_come, replaced, set_at}
 use Rattle.pass_cells.proofs.RowLemmas.{row_by_versions, row_count}
+use Rattle.pass_cells.proofs.WordLemmas.{stamped_nothing, stamped_words}
 use Rattle.pass_cells.proofs.SmallLemmas.{all_get}
 
 -- ---- one row
-
--- a stamp brings no row, and takes none away
-stamped_nothing : (by : TxnName) (n : ℕ) (vs : StampedVersions) → is_nothing (stamp by n vs) ≡ is_nothing vs
-stamped_nothing by n vs = λ i. none vs.pairs i && (none vs.touches i && not (is_some vs.oldest))
-  where
-    none : (ps : List Stamped) → is_empty (map (stamp_one by n) ps) ≡ is_empty ps
-    none [] = refl
-    none (p ∷ ps) = refl
 
 -- a second stamp changes nothing
 stamped_twice : (by : TxnName) (n : ℕ) (vs : StampedVersions) → stamp by n (stamp by n vs) ≡ stamp by n vs
@@ -125,16 +118,17 @@ module _ (ts : List TakenCell) (t u : TakenCell) (key : Key) (place : ℕ) (is :
       (more_come key u ts t place 0 is there kept (omega (arith, few))) in
       omega (arith, more)
 
-  pub stamps_keep : IsSegment u.held.value → u.held.cell ≡ t.held.cell → u.held.changed ≡ true
-      → KeepCells ts (slice_set ts place u)
-  stamps_keep sound cell marked =
+  pub stamps_keep : IsSegment t.held.value → IsSegment u.held.value → u.held.cell ≡ t.held.cell
+      → u.held.changed ≡ true → u.words_changed ≡ t.words_changed → KeepCells ts (slice_set ts place u)
+  stamps_keep was sound cell set marked =
       subst (KeepCells ts) (sym (set_at ts key place u is)) (kept_others key u ts t place is there (record {
         cell = cell;
         rows = kept;
         low = step.low;
         high = step.high;
         sound = λ s. sound;
-        same = λ e. never u.held.changed marked e;
+        unmarked = λ e. never u.held.changed set e;
+        same = λ e. (sym marked ∙ e, stamped_words t.held.value u.held.value key by n was step);
       }))
 
 -- ---- one after the other

@@ -1,6 +1,6 @@
 -- One change in the cells in hand, as the rows that a writer holds.
 use Rattle.std.proofs.Common.{◌≡◌, ℕ, ◌+◌, ◌-◌, ◌<◌, ◌≤◌, List, length, refl, sym, ◌∙◌, ap, subst, cond, arith, inl, inr, Some}
-use Rattle.std.specs.Prelude.{true, false, slice_get}
+use Rattle.std.specs.Prelude.{true, false, ◌||◌, slice_get}
 use Rattle.graph_model.specs.declared.limits.TheConstants.{SEGMENT_ROWS}
 use Rattle.graph_model.specs.declared.row.Key.{Key}
 use Rattle.graph_model.specs.declared.journal.TxnName.{TxnName}
@@ -15,8 +15,9 @@ use Rattle.row_writes.specs.Held.{AllowsChange, Changes, HaveCells, rows_for}
 use Rattle.row_writes.proofs.KeyLemmas.{key_self}
 use Rattle.store_rule.specs.CellsModel.Indexed.{covers}
 use Rattle.pass_cells.specs.declared.taken.TakenCell.{TakenCell}
-use Rattle.pass_cells.specs.Taken.{IsPlace, KeepCells, cell_at, has_cell, held_rows, rows_come}
+use Rattle.pass_cells.specs.Taken.{IsPlace, KeepCells, cell_at, changes_words, has_cell, held_rows, rows_come}
 use Rattle.pass_cells.proofs.CellLemmas.{at_place, covers_own, covers_same, either_cell, has_same, kept_others, more_come, replaced}
+use Rattle.pass_cells.proofs.WordLemmas.{quiet_words}
 use Rattle.pass_cells.proofs.RowLemmas.{each, no_more_rows, row_beside, row_stands}
 
 -- a key whose cell is in hand lies in it
@@ -103,12 +104,13 @@ module _ (change : RowChange) (by : TxnName) (ts : List TakenCell) (t u : TakenC
           (λ q e. row_stands change by t.held.value u.held.value key sound sound' step may put)
           (λ q c e f. never (same_key q key) f e) key (key_self key)
 
-  pub keeps : u.held.cell ≡ t.held.cell → u.held.changed ≡ true → KeepCells ts us
-  keeps cell marked = kept_others key u ts t place is there (record {
+  pub keeps : u.held.cell ≡ t.held.cell → u.held.changed ≡ true → u.words_changed ≡ (changes_words change || t.words_changed) → KeepCells ts us
+  keeps cell set marked = kept_others key u ts t place is there (record {
     cell = cell;
     rows = kept;
     low = step.low;
     high = step.high;
     sound = λ s. sound';
-    same = λ e. never u.held.changed marked e;
+    unmarked = λ e. never u.held.changed set e;
+    same = quiet_words change by t.held.value u.held.value key sound step may t.words_changed u.words_changed marked;
   })

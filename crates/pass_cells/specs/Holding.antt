@@ -27,8 +27,8 @@ use Rattle.pass_cells.specs.Taken.{AreApart, AreRising, held_rows, is_taken}
 
 -- ---- one cell
 
--- The view knows the cell as unpacked, with the contents that are in hand. They are a segment that may be packed: as it
--- was found, unless it was changed.
+-- The view knows the cell as unpacked, with the contents that are in hand. They are a segment that may be packed; its
+-- block spells it, unless words are said to be changed.
 pub record IsKnown (z : Config) (v : Sight) (t : TakenCell) : Type 0 where
   pub state : CellState
   pub has : HasCell v t.held.cell state
@@ -38,7 +38,7 @@ pub record IsKnown (z : Config) (v : Sight) (t : TakenCell) : Type 0 where
   pub same : IsSameSegment state.segment t.held.value
   pub sound : IsSegment t.held.value
   pub small : HasSmallWeights t.held.value
-  pub untouched : t.held.changed ≡ false → IsUntouched state
+  pub untouched : t.words_changed ≡ false → IsUntouched state
   -- so many rows are known
   pub count : t.rows ≡ length t.held.value.rows
 

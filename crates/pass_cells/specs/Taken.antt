@@ -5,7 +5,10 @@ use Rattle.std.specs.List.{AllByRecursion, list_any}
 use Rattle.graph_model.specs.declared.limits.TheConstants.{SEGMENT_ROWS}
 use Rattle.graph_model.specs.declared.row.Key.{Key}
 use Rattle.graph_model.specs.Rows.{first_key, is_below}
+use Rattle.row_writes.specs.VersionSegment.Resting.{word_rows}
 use Rattle.row_writes.specs.VersionSegment.Rows.{VersionedRows, IsSameSegment, IsSegment, has_row, versions_at}
+use Rattle.row_writes.specs.VersionSegmentDeclared.change.RowChange.{RowChange}
+use Rattle.row_writes.specs.VersionSegmentDeclared.change.RowChange.TheVariants.{Write, Undo, Touch, Untouch}
 use Rattle.row_writes.specs.Held.{HeldRows}
 use Rattle.store_rule.specs.CellsModel.Indexed.{covers}
 use Rattle.pass_cells.specs.declared.taken.TakenCell.{TakenCell}
@@ -48,15 +51,25 @@ rows_in t = held_rows t.list.items
 
 -- ---- what a change keeps
 
--- It is the same cell, between the same fence keys, and a segment if it was one. Where it isn't said to be changed, it
--- wasn't before, and its rows are as they were.
+-- a change of a row may change words of its cell's block; no word tells of touches
+abbrev pub changes_words : RowChange → Bool
+changes_words (Write value) = true
+changes_words Undo = true
+changes_words (Touch earlier) = false
+changes_words Untouch = true
+
+-- It is the same cell, between the same fence keys, and a segment if it was one. Where its value isn't said to be
+-- changed, it wasn't before, and its rows are as they were; and so of its words.
 pub record KeepsCell (old new : TakenCell) : Type 0 where
   pub cell : new.held.cell ≡ old.held.cell
   pub rows : new.rows ≡ old.rows
   pub low : new.held.value.low ≡ old.held.value.low
   pub high : new.held.value.high ≡ old.held.value.high
   pub sound : IsSegment old.held.value → IsSegment new.held.value
-  pub same : new.held.changed ≡ false → (old.held.changed ≡ false) × IsSameSegment old.held.value new.held.value
+  pub unmarked : new.held.changed ≡ false
+      → (old.held.changed ≡ false) × IsSameSegment old.held.value new.held.value
+  pub same : new.words_changed ≡ false
+      → (old.words_changed ≡ false) × (word_rows new.held.value ≡ word_rows old.held.value)
 
 abbrev pub KeepCells : List TakenCell → List TakenCell → Type 0
 KeepCells [] [] = Unit {0}
@@ -76,7 +89,8 @@ keeps_one t = record {
   low = refl;
   high = refl;
   sound = λ s. s;
-  same = λ e. (e, record { low = refl; high = refl; rows = refl });
+  unmarked = λ e. (e, record { low = refl; high = refl; rows = refl });
+  same = λ e. (e, refl);
 }
 
 pub keep_all : (ts : List TakenCell) → KeepCells ts ts
@@ -90,15 +104,21 @@ keeps_two t u v one two = record {
   low = two.low ∙ one.low;
   high = two.high ∙ one.high;
   sound = λ s. two.sound (one.sound s);
-  same = λ e.
-      let second = two.same e in
-      let first = one.same second.0 in (
+  unmarked = λ e.
+      let second = two.unmarked e in
+      let first = one.unmarked second.0 in (
         first.0,
         record {
           low = second.1.low ∙ first.1.low;
           high = second.1.high ∙ first.1.high;
           rows = second.1.rows ∙ first.1.rows;
         },
+      );
+  same = λ e.
+      let second = two.same e in
+      let first = one.same second.0 in (
+        first.0,
+        second.1 ∙ first.1,
       );
 }
 

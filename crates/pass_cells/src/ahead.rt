@@ -7,6 +7,7 @@ ghost use Rattle.store_rule.specs.RuleModel.Sight.{cells_of};
 
 use graph_model::Key;
 use store_rule::Store;
+use store_rule::below::Block;
 
 /// A line of memory has so many words.
 const LINE: usize = 8;
@@ -22,9 +23,11 @@ pub fn sum_ahead(store: &Store, cell: u32) -> u64 {
     }
     // The latch word has a line of its own; the lines of the block follow each other.
     let mut sum = store.cells().table.peek(cell as usize);
+    let begin = store.accounts.block_begin(cell);
+    let block = Block { cell, begin };
     'lines: for word in (0..BLOCK_WORDS).step_by(LINE) {
         // Needs no order, and what is found may be past: only that it was read counts.
-        sum = sum.wrapping_add(store.accounts.peek_word(cell, word));
+        sum = sum.wrapping_add(store.accounts.peek_in(block, word));
     }
     sum
 }

@@ -2,7 +2,7 @@
 //!
 //! 1. A cell is packed before it is given back, so that whoever reads its words finds its rows in them. It takes no
 //!    memory: room for heads and records was made before the write.
-//! 2. A cell in which nothing changed keeps its version, so reads that are under way there stay valid.
+//! 2. A cell of which no word changed keeps its version, so reads that are under way there stay valid.
 
 ghost use Rattle.std.specs.Prelude.{◌≡◌, ◌≤◌, ◌++◌, ◌∷◌, [], length, ◌<◌};
 ghost use Rattle.std.specs.Vec.{vec_capacity};
@@ -15,7 +15,8 @@ use latch_table::{Held, Laid};
 use store_rule::{Pass, Store, StoreSlot};
 
 impl PassCells {
-    /// Packs all cells in hand, puts each back, and then releases each. A cell that wasn't changed keeps its version.
+    /// Packs all cells in hand, puts each back, and then releases each. A cell of which no word changed keeps its
+    /// version.
     /// Takes no memory.
     pub fn put_back(&mut self, store: &Store, pass: &mut Pass)
         requires taken { HasTaken store.now pass.old self.old.taken.list.items }
@@ -42,9 +43,13 @@ fn pack_all(
         × (vec_capacity packed.old ≤ vec_capacity packed.new) }
 {
     'cells: while !taken.list.is_empty() {
-        let TakenCell { held, rows: _ } = taken.list.remove(0);
+        let TakenCell {
+            held,
+            rows: _,
+            words_changed,
+        } = taken.list.remove(0);
         // Words before the note: the note that is laid says what the block spells.
-        let held = store.pack(pass, held);
+        let held = store.pack(pass, held, words_changed);
         let held = store.lay_cell(pass, held);
         match packed.push(held) {
             Ok(()) => {}

@@ -15,8 +15,8 @@ ghost use Rattle.pass_cells.specs.Taken.{AreRising, cell_at, rows_in};
 
 use crate::taken::TakenCells;
 use graph_model::{Key, Row};
-use row_writes::HeldCells;
 use row_writes::below::{NOWHERE, Rows32};
+use row_writes::{Fingers, FoundRows, HeldCells, WrittenRows};
 use undo_chain::{Snapshot, States};
 
 /// Rows that are lent, and the key before which they end.
@@ -29,6 +29,36 @@ pub struct CellRun<'a> {
 }
 
 impl TakenCells {
+    /// Where the rows of a write stand in their cells, or would stand, so that the steps to come look there first. No
+    /// clause says that a place is right: a wrong one costs a search.
+    pub fn find(&self, rows: &WrittenRows) -> FoundRows<usize>
+        ensures { result.rows ≡ rows.now }
+    {
+        let (source, target) = match rows.ends {
+            Some(ends) => (Some(ends.source), Some(ends.target)),
+            None => (None, None),
+        };
+        let near = Fingers {
+            row: self.place_near(Some(rows.row)),
+            back: self.place_near(rows.back),
+            source: self.place_near(source),
+            target: self.place_near(target),
+        };
+        FoundRows { rows: *rows, near }
+    }
+
+    /// The same of one key, if there is one.
+    fn place_near(&self, key: Option<Key>) -> usize {
+        let Some(key) = key else { return NOWHERE };
+        let cells = self.list.as_slice();
+        'cells: for place in 0..cells.len() {
+            if cells[place].covers(key) {
+                return cells[place].held.value.place_of(key);
+            }
+        }
+        NOWHERE
+    }
+
     /// The value of a key for a snapshot.
     pub fn value<S: States>(&self, key: Key, snapshot: &Snapshot, states: &mut S) -> Option<u64>
         requires held { (rows_in self.now).holds key ≡ true }

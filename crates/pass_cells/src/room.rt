@@ -12,7 +12,7 @@ ghost use Rattle.pass_cells.specs.Taken.{AreRising, rows_in};
 
 use crate::taken::TakenCells;
 use graph_model::Key;
-use row_writes::WrittenRows;
+use row_writes::FoundRows;
 use row_writes::below::VersionSegment;
 
 /// A key without a row, for which and for the other keys of the write that are missing in its cell there is no room:
@@ -53,26 +53,27 @@ impl RoomNeed {
 impl TakenCells {
     /// What is short of places, if anything is: the row that is written is looked at first, and then the one that goes
     /// the other way.
-    pub fn room_need(&self, rows: &WrittenRows) -> Option<RoomNeed>
+    pub fn room_need(&self, found: &FoundRows<usize>) -> Option<RoomNeed>
         requires rising { AreRising self.now.list.items }
-        requires held { AreHeld (rows_in self.now) (written_keys rows.now) }
-        ensures none { result ≡ None → HaveRoom (rows_in self.now) (written_keys rows.now) }
+        requires held { AreHeld (rows_in self.now) (written_keys found.now.rows) }
+        ensures none { result ≡ None → HaveRoom (rows_in self.now) (written_keys found.now.rows) }
         ensures short { IfSome result (λ short.
-            IsShort (rows_in self.now) (written_keys rows.now) (key_of short) (need_of short)) }
+            IsShort (rows_in self.now) (written_keys found.now.rows) (key_of short) (need_of short)) }
     {
+        let FoundRows { rows, near } = *found;
         match rows.back {
-            None => self.need_at(rows.row, None),
+            None => self.need_at(rows.row, near.row, None),
             // Where both rows of an edge would come into one cell, that cell needs two places, which is asked for at
             // once: room for the first alone would be asked for again.
-            Some(back) => match self.need_at(rows.row, Some(back)) {
-                None => self.need_at(back, Some(rows.row)),
+            Some(back) => match self.need_at(rows.row, near.row, Some(back)) {
+                None => self.need_at(back, near.back, Some(rows.row)),
                 short => short,
             },
         }
     }
 
-    /// The same of one key, with the other one of the write.
-    fn need_at(&self, key: Key, other: Option<Key>) -> Option<RoomNeed>
+    /// The same of one key, which is looked for near a place first, with the other one of the write.
+    fn need_at(&self, key: Key, near: usize, other: Option<Key>) -> Option<RoomNeed>
         requires rising { AreRising self.now.list.items }
         requires held { (rows_in self.now).holds key ≡ true }
         ensures none { result ≡ None → HasRoomFor (rows_in self.now) (with_back other key) key }
@@ -81,7 +82,7 @@ impl TakenCells {
     {
         let cell = &self.list[self.place_of(key)].held.value;
         // A row that was removed and still has records takes no new place.
-        if cell.has_row(key) {
+        if cell.has_row_near(key, near) {
             return None;
         }
         let need = places_for(cell, other);

@@ -119,7 +119,11 @@ impl PassCells {
         // its rows any more.
         let held = gather(store, pass, held);
         let rows = held.value.len();
-        let taken = TakenCell { held, rows };
+        let taken = TakenCell {
+            held,
+            rows,
+            words_changed: false,
+        };
         let is_next = taken.follows(key, end);
         // It is added even where it is the wrong one: then the caller gives it back with the others.
         self.taken.add(taken);

@@ -1,14 +1,15 @@
 //! Cells that a pass has taken, gathered and unpacked.
 //!
 //! 1. The first of them that covers a key is the key's. They are few, so it is looked for from the first one on.
-//! 2. A change sets the mark of its cell before the rows change.
+//! 2. A change sets the mark of its cell before the rows change. Neither a touch nor a stamp changes a word of the
+//!    cell's block, so they leave the mark of words alone.
 
-ghost use Rattle.std.specs.Prelude.{◌≡◌, ◌<◌, ◌≤◌, ◌++◌, true, false, [], ◌∷◌, length};
+ghost use Rattle.std.specs.Prelude.{◌≡◌, ◌<◌, ◌≤◌, ◌++◌, ◌||◌, true, false, [], ◌∷◌, length};
 ghost use Rattle.std.specs.Vec.{vec_capacity};
 ghost use Rattle.graph_model.specs.Rows.{is_below};
 ghost use Rattle.store_rule.specs.CellsModel.Indexed.{covers};
 ghost use Rattle.pass_cells.specs.Changes.{StampsRows};
-ghost use Rattle.pass_cells.specs.Taken.{IsMissing, IsPlace, KeepsTaken, counted, end_of, has_cell, is_taken, keeps_itself, keeps_on, rows_come, rows_in};
+ghost use Rattle.pass_cells.specs.Taken.{IsMissing, IsPlace, KeepsTaken, changes_words, counted, end_of, has_cell, is_taken, keeps_itself, keeps_on, rows_come, rows_in};
 
 use graph_model::{Key, NoMemory, TxnName};
 use latch_table::Held;
@@ -21,6 +22,9 @@ pub struct TakenCell {
     pub held: Held<VersionSegment>,
     /// How many rows the pass's view has in it. What is more has come since, and is counted when the view is told.
     pub rows: usize,
+    /// Whether words of the block may have to change when the cell is packed: those of a row tell its key and its newest
+    /// value, and whether it has undo records.
+    pub words_changed: bool,
 }
 
 /// The cells in hand, in the order in which they were taken.
@@ -181,6 +185,7 @@ impl HeldCells for TakenCells {
         let place = self.place_of(key);
         let taken = &mut self.list[place];
         taken.held.changed = true;
+        taken.words_changed = have_words_changed(change, taken.words_changed);
         taken.held.value.is_segment();
         taken.held.value.change(key, near, by, change);
         taken.held.value.is_segment();
@@ -189,4 +194,18 @@ impl HeldCells for TakenCells {
     ghost keeps_self = { keeps_itself };
 
     ghost keeps_chain = { keeps_on };
+}
+
+/// Whether words of a cell's block may have changed after a change of a row, given whether they may have before.
+fn have_words_changed(change: RowChange, before: bool) -> bool
+    ensures { result ≡ (changes_words change || before) }
+{
+    match change {
+        RowChange::Write { value: _ } => true,
+        RowChange::Undo => true,
+        // No word tells who touched a row.
+        RowChange::Touch { earlier: _ } => before,
+        // Where nothing but the touch was left of the row, it goes.
+        RowChange::Untouch => true,
+    }
 }

@@ -36,7 +36,11 @@ pub fn unpack_all(
         let held = packed.remove(0);
         let held = gather(store, pass, held);
         let rows = held.value.len();
-        match cells.push(TakenCell { held, rows }) {
+        match cells.push(TakenCell {
+            held,
+            rows,
+            words_changed: false,
+        }) {
             Ok(()) => {}
             Err(_) => unreachable!(),
         }
@@ -61,8 +65,12 @@ pub fn pack_all(
         × (vec_capacity packed.old ≤ vec_capacity packed.new) }
 {
     'places: while !cells.is_empty() {
-        let TakenCell { held, rows: _ } = cells.remove(0);
-        let held = store.pack(pass, held);
+        let TakenCell {
+            held,
+            rows: _,
+            words_changed,
+        } = cells.remove(0);
+        let held = store.pack(pass, held, words_changed);
         let held = store.lay_cell(pass, held);
         match packed.push(held) {
             Ok(()) => {}

@@ -37,6 +37,7 @@ pub fn mark(cells: &mut [TakenCell], first: usize, len: usize)
         mark(cells, first - 1, len);
     } else if len > 0 {
         cell.held.changed = true;
+        cell.words_changed = true;
         mark(cells, 0, len - 1);
     }
 }

@@ -36,7 +36,8 @@ module _ (stamps : TxnName → Option ℕ) (horizon : ℕ) where
     low = is.pruned.low;
     high = is.pruned.high;
     sound = λ _. is.sound;
-    same = λ e. marked (u.held.changed) is.changed e;
+    unmarked = λ e. marked u.held.changed is.marked e;
+    same = λ e. marked u.words_changed is.changed e;
   }
     where
       marked : {P : Type 0} → (b : Bool) → b ≡ true → b ≡ false → P

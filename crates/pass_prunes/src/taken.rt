@@ -86,5 +86,6 @@ fn prune_one(store: &Store, pass: &mut Pass, horizon: u64, taken: &mut TakenCell
 {
     let clock = learn_writers(store, pass);
     taken.held.changed = true;
+    taken.words_changed = true;
     prune_rows(store, pass, clock, horizon, &mut taken.held.value);
 }

@@ -6,8 +6,7 @@
 ghost use Rattle.std.specs.Prelude.{◌≡◌, ◌≤◌, true, false, length};
 ghost use Rattle.graph_model.specs.Rows.{is_below, rows};
 ghost use Rattle.pass_cells.specs.Taken.{rows_in};
-ghost use Rattle.pass_steps.specs.RuleModel.NoteSteps.{LearnsRows};
-ghost use Rattle.pass_readers.specs.Hand.{HasNothing, HasReadInHand, KeepsReader};
+ghost use Rattle.pass_readers.specs.Hand.{HasNothing, HasReadInHand, KeepsReader, ReadsInHand};
 ghost use Rattle.pass_readers.specs.Looks.{asked_by};
 ghost use Rattle.pass_readers.specs.Readers.{IsSnapshotOf, read_by, seen_by};
 ghost use Rattle.pass_readers.specs.Runs.{IsRunTo};
@@ -69,9 +68,7 @@ fn read_in_hand(
     until: Key,
     run: &mut Rows64,
 ) -> Key
-    requires hand { HasReadInHand store.now reader.old taken.now.list.items }
-    requires learnt { LearnsRows store.now.accounts.config reader.old.account.me.0 (read_by reader.old) clock }
-    requires snapshot { IsSnapshotOf (read_by reader.old) snapshot.now }
+    requires reading { ReadsInHand store.now reader.old taken.now.list.items clock snapshot.now }
     requires held { (rows_in taken.now).holds from ≡ true }
     requires ahead { is_below from until ≡ true }
     ensures hand { HasReadInHand store.now reader.new taken.now.list.items }
@@ -93,9 +90,7 @@ fn read_as<B: Reading>(
     run: &mut Rows64,
 ) -> Key
     requires asking { B.asking ≡ asked_by store.now reader.old clock }
-    requires hand { HasReadInHand store.now reader.old taken.now.list.items }
-    requires learnt { LearnsRows store.now.accounts.config reader.old.account.me.0 (read_by reader.old) clock }
-    requires snapshot { IsSnapshotOf (read_by reader.old) snapshot.now }
+    requires reading { ReadsInHand store.now reader.old taken.now.list.items clock snapshot.now }
     requires held { (rows_in taken.now).holds from ≡ true }
     requires ahead { is_below from until ≡ true }
     ensures hand { HasReadInHand store.now reader.new taken.now.list.items }

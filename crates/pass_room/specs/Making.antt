@@ -1,9 +1,10 @@
 -- Room that a pass makes: what is in hand meanwhile, and what a call answers and leaves.
-use Rattle.std.specs.Prelude.{◌≡◌, ℕ, true, List, [], Result, Ok, Err}
+use Rattle.std.specs.Prelude.{◌≡◌, ◌≤◌, ℕ, true, List, [], Result, Ok, Err}
 use Rattle.std.specs.declared.alloc.Global.{Global}
 use Rattle.std.specs.declared.boxed.Box.{Box}
 use Rattle.graph_model.specs.declared.row.Key.{Key}
 use Rattle.graph_model.specs.Account.{Account}
+use Rattle.graph_model.specs.Rows.{end_key, is_below}
 use Rattle.latch_table.specs.declared.cells.Held.{Held}
 use Rattle.leaf_index.specs.declared.index.LeafIndex.{LeafIndex}
 use Rattle.pass_writes.specs.StoreRelation.Passes.{PassState}
@@ -34,6 +35,12 @@ pub record KeepsPassAs (old new : Pass) (st : PassState) : Type 0 where
   pub same : IsSamePass old new
   pub state : state_of new ≡ st
   pub pin : pin_of new ≡ pin_of old
+
+-- so many places may be asked for in the cell of this key
+pub record MayAskFor (key : Key) (need : ℕ) : Type 0 where
+  pub below : is_below key end_key ≡ true
+  pub some : 1 ≤ need
+  pub few : need ≤ 2
 
 -- ---- answers
 

@@ -5,11 +5,11 @@
 //! 2. What was found before the places were taken is looked at again with them in hand, since others may have come
 //!    first.
 
-ghost use Rattle.std.specs.Prelude.{◌≡◌, ◌≤◌, true, [], IfErr, IfOk, IfSome};
-ghost use Rattle.graph_model.specs.Rows.{is_below, end_key};
-ghost use Rattle.pass_writes.specs.PassSteps.Passes.{HoldsNone, IsPassOf, state_of};
+ghost use Rattle.std.specs.Prelude.{IfErr, IfOk, IfSome};
+ghost use Rattle.pass_writes.specs.PassSteps.Passes.{state_of};
 ghost use Rattle.pass_writes.specs.Hand.{HasNothing};
-ghost use Rattle.pass_room.specs.Making.{IsMadeFor, IsNoRoom, KeepsPassAs, state_after};
+ghost use Rattle.pass_writes.specs.PassSettles.Settled.{HasNoneInHand};
+ghost use Rattle.pass_room.specs.Making.{IsMadeFor, IsNoRoom, KeepsPassAs, MayAskFor, state_after};
 
 use crate::made::{NoRoom, RoomMade};
 use crate::own::PassRoom;
@@ -33,13 +33,9 @@ pub fn make_room(
     need: u8,
     alloc: Global,
 ) -> Result<RoomMade, NoRoom>
-    requires pass { IsPassOf store.now pass.old }
-    requires none { HoldsNone pass.old }
-    requires below { is_below key end_key ≡ true }
-    requires some { 1 ≤ need }
-    requires few { need ≤ 2 }
-    ensures pass { IsPassOf store.now pass.new }
-    ensures none { HoldsNone pass.new }
+    requires idle { HasNoneInHand store.now pass.old }
+    requires asked { MayAskFor key need }
+    ensures idle { HasNoneInHand store.now pass.new }
     ensures kept { KeepsPassAs pass.old pass.new (state_after result (state_of pass.old)) }
     ensures made { IfOk result (IsMadeFor key need) }
     ensures refused { IfErr result (IsNoRoom store.now key need) }
@@ -67,9 +63,7 @@ fn try_room(
     alloc: Global,
 ) -> Result<Option<RoomMade>, NoRoom>
     requires none { HasNothing store.now pass.old own.old.leaves.cells.items }
-    requires below { is_below key end_key ≡ true }
-    requires some { 1 ≤ need }
-    requires few { need ≤ 2 }
+    requires asked { MayAskFor key need }
     ensures none { HasNothing store.now pass.new own.new.leaves.cells.items }
     ensures kept { KeepsPassAs pass.old pass.new (state_after result (state_of pass.old)) }
     ensures made { IfOk result (λ made. IfSome made (IsMadeFor key need)) }

@@ -3,12 +3,11 @@
 //! 1. Both leaves are taken in one go by rising keys. Whether the split is still to be done is looked at with both in
 //!    hand.
 
-ghost use Rattle.std.specs.Prelude.{◌≡◌, ◌≤◌, true, [], ◌∷◌, IfOk, IfSome};
-ghost use Rattle.graph_model.specs.Rows.{is_below, end_key};
+ghost use Rattle.std.specs.Prelude.{[], ◌∷◌, IfOk, IfSome};
 ghost use Rattle.pass_splits.specs.PassLeaves.Fit.{TellsFit};
 ghost use Rattle.pass_splits.specs.PassLeaves.Hand.{IsLeafOfKey};
 ghost use Rattle.pass_writes.specs.Hand.{HasNothing, KeepsState};
-ghost use Rattle.pass_room.specs.Making.{HasLeavesInHand, IsMadeFor};
+ghost use Rattle.pass_room.specs.Making.{HasLeavesInHand, IsMadeFor, MayAskFor};
 
 use crate::hand::{put_back, take_both};
 use crate::made::RoomMade;
@@ -35,9 +34,7 @@ pub(crate) fn try_split(
     alloc: Global,
 ) -> Result<Option<RoomMade>, NoMemory>
     requires none { HasNothing store.now pass.old own.old.leaves.cells.items }
-    requires below { is_below key end_key ≡ true }
-    requires some { 1 ≤ need }
-    requires few { need ≤ 2 }
+    requires asked { MayAskFor key need }
     ensures none { HasNothing store.now pass.new own.new.leaves.cells.items }
     ensures kept { KeepsState pass.old pass.new }
     ensures made { IfOk result (λ made. IfSome made (IsMadeFor key need)) }
@@ -79,9 +76,7 @@ fn split_in_hand(
     requires hand { HasLeavesInHand store.now pass.old (leaf ∷ free ∷ []) cells.old index.old }
     requires key { IsLeafOfKey key index.old.value.value leaf }
     requires fit { TellsFit store.now.accounts.config pass.old.account.me.0 }
-    requires below { is_below key end_key ≡ true }
-    requires some { 1 ≤ need }
-    requires few { need ≤ 2 }
+    requires asked { MayAskFor key need }
     ensures hand { HasLeavesInHand store.now pass.new (leaf ∷ free ∷ []) cells.new index.new }
     ensures kept { KeepsState pass.old pass.new }
     ensures made { IfOk result (λ made. IfSome made (IsMadeFor key need)) }

@@ -10,7 +10,7 @@ ghost use Rattle.pass_splits.specs.PassMoves.Moving.{values_of};
 ghost use Rattle.pass_splits.specs.PassMoves.Room.{IsCrowdedAt};
 ghost use Rattle.pass_writes.specs.PassSteps.Passes.{state_of};
 ghost use Rattle.pass_writes.specs.Hand.{HasNothing};
-ghost use Rattle.pass_room.specs.Making.{HasLeavesInHand, IsNoRoom, IsSpread, KeepsPassAs, state_after};
+ghost use Rattle.pass_room.specs.Making.{HasLeavesInHand, IsNoRoom, IsSpread, KeepsPassAs, MayAskFor, state_after};
 
 use crate::full::note_full;
 use crate::hand::{put_back, take_leaf};
@@ -44,9 +44,7 @@ pub(crate) fn try_spread(
     alloc: Global,
 ) -> Result<Spread, NoRoom>
     requires none { HasNothing store.now pass.old own.old.leaves.cells.items }
-    requires below { is_below key end_key ≡ true }
-    requires some { 1 ≤ need }
-    requires few { need ≤ 2 }
+    requires asked { MayAskFor key need }
     ensures none { HasNothing store.now pass.new own.new.leaves.cells.items }
     ensures kept { KeepsPassAs pass.old pass.new (state_after result (state_of pass.old)) }
     ensures made { IfOk result (IsSpread key need) }
@@ -84,9 +82,7 @@ fn spread_in_hand(
     requires hand { HasLeavesInHand store.now pass.old (leaf ∷ []) cells.old index.old }
     requires key { IsLeafOfKey key index.old.value.value leaf }
     requires fit { TellsFit store.now.accounts.config pass.old.account.me.0 }
-    requires below { is_below key end_key ≡ true }
-    requires some { 1 ≤ need }
-    requires few { need ≤ 2 }
+    requires asked { MayAskFor key need }
     ensures hand { HasLeavesInHand store.now pass.new (leaf ∷ []) cells.new index.new }
     ensures kept { KeepsPassAs pass.old pass.new (state_after result (state_of pass.old)) }
     ensures made { IfOk result (IsSpread key need) }

@@ -6,9 +6,13 @@ use Rattle.graph_model.specs.Graph.{Graph}
 use Rattle.graph_model.specs.History.{view}
 use Rattle.graph_model.specs.Rows.{is_below, is_between, rows}
 use Rattle.txn_manager.specs.declared.config.Config.{Config}
+use Rattle.undo_chain.specs.declared.states.Snapshot.{Snapshot}
+use Rattle.pass_cells.specs.RuleModel.NoteSteps.{LearnsRows}
 use Rattle.pass_sweeps.specs.CellsModel.Cells.{CellState}
 use Rattle.pass_sweeps.specs.CellsModel.Indexed.{covers}
 use Rattle.pass_sweeps.specs.CellsModel.Words.{HasSmallWeights}
+use Rattle.pass_sweeps.specs.PassSteps.Asking.{IsSnapshotOf}
+use Rattle.pass_sweeps.specs.PassSteps.Passes.{IsPassOf, reader_of_pass}
 use Rattle.pass_sweeps.specs.Pruning.{HasCellOnly}
 use Rattle.pass_sweeps.specs.RuleModel.Sight.{HasCell, PinState, Sight, cells_of}
 use Rattle.pass_sweeps.specs.StoreRelation.Passes.{PassState}
@@ -27,6 +31,12 @@ pub record HasPacked (store : Store) (pass : Pass) (st : PassState) (x : PinStat
     : Type 0 where
   pub only : HasCellOnly store pass st x k c 0
   pub packed : c.unpacked ≡ false
+
+-- the pass has learnt at this clock of the rows that it reads as this snapshot sees them
+pub record ReadsAt (store : Store) (pass : Pass) (clock : ℕ) (snapshot : Snapshot) : Type 0 where
+  pub of : IsPassOf store pass
+  pub learnt : LearnsRows store.accounts.config pass.account.me.0 (reader_of_pass pass) clock
+  pub sees : IsSnapshotOf pass snapshot
 
 -- The view has a cell of which this is kept, and these are its rows with their words. It covers each key of the range.
 pub record MayRead (z : Config) (v : Sight) (k : ℕ) (resting : RestingRows) (words : List Row) (from end : Key)

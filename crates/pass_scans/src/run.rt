@@ -6,14 +6,14 @@
 ghost use Rattle.std.specs.Prelude.{◌≡◌, true, IfSome};
 ghost use Rattle.graph_model.specs.Rows.{is_below, is_between, rows};
 ghost use Rattle.pass_cells.specs.Reading.{lesser};
-ghost use Rattle.pass_cells.specs.RuleModel.NoteSteps.{LearnsRows};
 ghost use Rattle.pass_sweeps.specs.CellsModel.Cells.{CellState};
 ghost use Rattle.pass_sweeps.specs.StoreRelationDeclared.stage.Stage.TheVariants.{Open};
 ghost use Rattle.pass_sweeps.specs.StoreRule.Slots.{RestsAs};
 ghost use Rattle.pass_sweeps.specs.PassSteps.Asking.{IsSnapshotOf, KnowsLooks, asking_of};
-ghost use Rattle.pass_sweeps.specs.PassSteps.Passes.{HoldsNone, IsPassOf, pin_of, reader_of_pass, state_of};
+ghost use Rattle.pass_sweeps.specs.PassSteps.Passes.{pin_of, state_of};
 ghost use Rattle.pass_sweeps.specs.Pruning.{FindsWords};
-ghost use Rattle.pass_scans.specs.Packed.{HasPacked, IsRunTo, MayRead, view_seen};
+ghost use Rattle.pass_settles.specs.Settled.{HasNoneInHand};
+ghost use Rattle.pass_scans.specs.Packed.{HasPacked, IsRunTo, MayRead, ReadsAt, view_seen};
 
 use crate::packed::load_packed;
 use graph_model::{Begun, Key, Row};
@@ -47,13 +47,11 @@ pub fn read_packed(
     until: Key,
     run: &mut Rows32,
 ) -> Option<PackedRun>
-    requires pass { IsPassOf store.now pass.old }
-    requires none { HoldsNone pass.old }
+    requires idle { HasNoneInHand store.now pass.old }
     requires opened { (state_of pass.old).stage ≡ Open }
     requires begun { IsSnapshotOf pass.old (record { start = begun.start; own = begun.by }) }
     requires ahead { is_below from until ≡ true }
-    ensures pass { IsPassOf store.now pass.new }
-    ensures none { HoldsNone pass.new }
+    ensures idle { HasNoneInHand store.now pass.new }
     ensures found { FindsWords pass.old pass.new }
     ensures run { IfSome result (λ read. IsRunTo read.end (view_seen store.now.accounts.config (state_of pass.old))
         from until run.new) }
@@ -141,9 +139,7 @@ fn read_rows(
     end: Key,
     run: &mut Rows32,
 )
-    requires pass { IsPassOf store.now pass.old }
-    requires learnt { LearnsRows store.now.accounts.config pass.old.account.me.0 (reader_of_pass pass.old) clock }
-    requires snapshot { IsSnapshotOf pass.old snapshot.now }
+    requires reading { ReadsAt store.now pass.old clock snapshot.now }
     requires may { (c : CellState) × MayRead store.now.accounts.config pass.old.account.me.0 cell resting.now words.now
         from end c }
     ensures looked { KnowsLooks pass.old.account.me.0 pass.old pass.new }
@@ -168,9 +164,7 @@ fn read_as<B: Asker>(
     run: &mut Rows32,
 )
     requires asking { B.asking ≡ asking_of store.now pass.old clock }
-    requires pass { IsPassOf store.now pass.old }
-    requires learnt { LearnsRows store.now.accounts.config pass.old.account.me.0 (reader_of_pass pass.old) clock }
-    requires snapshot { IsSnapshotOf pass.old snapshot.now }
+    requires reading { ReadsAt store.now pass.old clock snapshot.now }
     requires may { (c : CellState) × MayRead store.now.accounts.config pass.old.account.me.0 _cell resting.now words.now
         from end c }
     ensures looked { KnowsLooks pass.old.account.me.0 pass.old pass.new }

@@ -19,7 +19,7 @@ use Rattle.pass_sweeps.specs.StoreWords.Spelling.{Stays}
 use Rattle.pass_sweeps.specs.StoreRule.Slots.{RestsAs}
 use Rattle.pass_sweeps.specs.StoreRuleDeclared.store.Pass.{Pass}
 use Rattle.pass_sweeps.specs.StoreRuleDeclared.store.Store.{Store}
-use Rattle.pass_sweeps.specs.PassSteps.Passes.{name_of_pass, state_in, state_of}
+use Rattle.pass_sweeps.specs.PassSteps.Passes.{HoldsNone, IsPassOf, IsSamePass, name_of_pass, pin_of, state_in, state_of}
 use Rattle.pass_sweeps.specs.PassSteps.Txns.{HasCommitted}
 use Rattle.pass_sweeps.specs.Pruning.{HasCellOnly, cell_in, news_of}
 use Rattle.pass_sweeps.specs.Sweeping.{HasSwept}
@@ -27,6 +27,20 @@ use Rattle.pass_sweeps.specs.RuleModel.RowSteps.{CanStamp}
 use Rattle.pass_settles.specs.declared.fences.Fences.{Fences}
 use Rattle.pass_settles.specs.Marks.{IsClearing}
 use Rattle.pass_sweeps.specs.VersionSegment.Settling.{stamped_segment}
+
+-- ---- nothing in hand
+
+-- a pass of the store with nothing in hand
+pub record HasNoneInHand (store : Store) (pass : Pass) : Type 0 where
+  pub of : IsPassOf store pass
+  pub none : HoldsNone pass
+
+-- it has nothing in hand again, and its pin is as it was
+pub record GivesBack (store : Store) (old new : Pass) : Type 0 where
+  pub of : IsPassOf store new
+  pub none : HoldsNone new
+  pub pin : pin_of new ≡ pin_of old
+  pub same : IsSamePass old new
 
 -- ---- who may stamp and settle
 

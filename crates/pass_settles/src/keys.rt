@@ -6,14 +6,14 @@
 ghost use Rattle.std.specs.Prelude.{◌≡◌, ◌≤◌, true, false, None, length, take, IfSome};
 ghost use Rattle.epoch_reclaim.specs.Pinned.{horizon_of};
 ghost use Rattle.graph_model.specs.Rows.{is_between};
-ghost use Rattle.pass_sweeps.specs.PassSteps.Passes.{HoldsNone, IsPassOf, IsSamePass, pin_of, state_of};
+ghost use Rattle.pass_sweeps.specs.PassSteps.Passes.{IsSamePass, pin_of, state_of};
 ghost use Rattle.pass_sweeps.specs.CellsModel.Cells.{CellState};
 ghost use Rattle.pass_sweeps.specs.CellsModel.Indexed.{covers};
 ghost use Rattle.pass_sweeps.specs.CellsModel.Words.{Spells};
 ghost use Rattle.pass_sweeps.specs.RuleModel.Sight.{HasCell};
 ghost use Rattle.pass_sweeps.specs.VersionSegment.Resting.{CanSettle};
 ghost use Rattle.pass_settles.specs.declared.keys.CellEnd.TheVariants.{Settle};
-ghost use Rattle.pass_settles.specs.Settled.{IsPackedWith, IsSettling, StampsKeys, stamped_between};
+ghost use Rattle.pass_settles.specs.Settled.{GivesBack, HasNoneInHand, IsPackedWith, IsSettling, StampsKeys, stamped_between};
 
 use crate::cell::{settle_cell, stamp_cell};
 use crate::fences::{Fences, load_fences};
@@ -57,16 +57,12 @@ pub fn settle_keys(
     keys: &[Key],
     cells: &[u32],
 ) -> usize
-    requires pass { IsPassOf store.now pass.old }
-    requires none { HoldsNone pass.old }
+    requires idle { HasNoneInHand store.now pass.old }
     requires settling { IsSettling store.now pass.old sweep.now by stamp }
     requires named { length keys.now ≤ length cells.now }
     ensures count { result ≤ length keys.now }
-    ensures pass { IsPassOf store.now pass.new }
-    ensures none { HoldsNone pass.new }
     ensures stamped { StampsKeys (take result keys.now) (state_of pass.old) (state_of pass.new) }
-    ensures pin { pin_of pass.new ≡ pin_of pass.old }
-    ensures same { IsSamePass pass.old pass.new }
+    ensures back { GivesBack store.now pass.old pass.new }
 {
     let mut fences = Fences::empty();
     'keys: for place in 0..keys.len() {
@@ -95,16 +91,12 @@ fn settle_key(
     key: Key,
     cell: u32,
 ) -> Option<Fences>
-    requires pass { IsPassOf store.now pass.old }
-    requires none { HoldsNone pass.old }
+    requires idle { HasNoneInHand store.now pass.old }
     requires settling { IsSettling store.now pass.old sweep.now by stamp }
-    ensures pass { IsPassOf store.now pass.new }
-    ensures none { HoldsNone pass.new }
     ensures settled { IfSome result (λ f. (state_of pass.new ≡ stamped_between f.low f.high (state_of pass.old))
         × (is_between f.low f.high key ≡ true)) }
     ensures left { result ≡ None → state_of pass.new ≡ state_of pass.old }
-    ensures pin { pin_of pass.new ≡ pin_of pass.old }
-    ensures same { IsSamePass pass.old pass.new }
+    ensures back { GivesBack store.now pass.old pass.new }
 {
     if cell >= store.index_place() {
         return None;

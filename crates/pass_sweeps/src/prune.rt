@@ -47,7 +47,8 @@ pub(crate) fn prune_cell(
 {
     let mut held = store.unpack(pass, held);
     let went = prune_unpacked(store, pass, sweep, &mut held);
-    (store.pack(pass, held), went)
+    let words_changed = held.changed;
+    (store.pack(pass, held, words_changed), went)
 }
 
 /// The same of a cell that is unpacked.

@@ -1,11 +1,15 @@
 -- Which rows of a commit are still to be stamped.
 use Rattle.std.specs.Prelude.{◌≡◌, ◌++◌, true, false, List}
+use Rattle.graph_model.specs.declared.journal.TxnName.{TxnName}
 use Rattle.graph_model.specs.declared.row.Key.{Key}
 use Rattle.graph_model.specs.declared.write.Kind.{Kind}
 use Rattle.graph_model.specs.declared.write.Write.{Write}
 use Rattle.pass_prunes.specs.StoreRelation.Keys.{changed_keys, has_key}
 use Rattle.pass_prunes.specs.StoreRelation.Passes.{PassState}
 use Rattle.pass_prunes.specs.StoreRelation.Steps.{with_unstamped}
+use Rattle.pass_prunes.specs.StoreRelationDeclared.stage.Stage.TheVariants.{Aborting}
+use Rattle.pass_prunes.specs.StoreRuleDeclared.store.Pass.{Pass}
+use Rattle.pass_prunes.specs.PassSteps.Passes.{name_of_pass, state_of}
 use Rattle.pass_prunes.specs.RowWrites.Written.{rows_of, touched_keys, written_keys}
 
 -- only rows that these writes change
@@ -25,3 +29,8 @@ pub record AreStampedTo (kind : Kind) (w : Write) (old new : PassState) : Type 0
   pub is : LeavesRows new.unstamped old new
   pub left : (q : Key) → has_key new.unstamped q ≡ true → has_key old.unstamped q ≡ true
   pub gone : (q : Key) → has_key (keys_changed kind w) q ≡ true → has_key new.unstamped q ≡ false
+
+-- the pass takes the writes of this transaction back
+pub record IsAborting (pass : Pass) (by : TxnName) : Type 0 where
+  pub stage : (state_of pass).stage ≡ Aborting
+  pub name : by ≡ name_of_pass pass

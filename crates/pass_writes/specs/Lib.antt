@@ -9,6 +9,7 @@ pub mod LoadedCells
 pub mod PassCells
 pub mod PassCellsContracts
 pub mod PassCellsDeclared
+pub mod PassSettles
 pub mod PassSteps
 pub mod PassSweeps
 pub mod RuleModel

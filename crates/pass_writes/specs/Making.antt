@@ -1,5 +1,5 @@
 -- What a write makes of the state of its pass, by what it is answered.
-use Rattle.std.specs.Prelude.{◌≡◌, ◌≢◌, ◌⊎◌, ℕ, ◌-◌, ◌<◌, true, List, ◌∷◌, Some, None, Result, Ok, Err}
+use Rattle.std.specs.Prelude.{◌≡◌, ◌≢◌, ◌⊎◌, ℕ, ◌-◌, ◌<◌, Bool, true, List, ◌∷◌, Some, None, Result, Ok, Err}
 use Rattle.graph_model.specs.declared.journal.Begun.{Begun}
 use Rattle.graph_model.specs.declared.refusal.Cause.{Cause}
 use Rattle.graph_model.specs.declared.refusal.Cause.TheVariants.{Later, Holder}
@@ -7,23 +7,28 @@ use Rattle.graph_model.specs.declared.refusal.Refusal.{Refusal}
 use Rattle.graph_model.specs.declared.refusal.Refusal.TheVariants as refusals
 use Rattle.graph_model.specs.declared.row.Key.{Key}
 use Rattle.graph_model.specs.declared.write.Write.{Write}
+use Rattle.graph_model.specs.Graph.{Graph}
 use Rattle.graph_model.specs.Inserted.{inserts}
-use Rattle.graph_model.specs.Refused.{refused}
+use Rattle.graph_model.specs.Refused.{IsWithinLimits, refused}
 use Rattle.txn_manager.specs.declared.config.Config.{Config}
 use Rattle.pass_prunes.specs.StoreRelation.Keys.{has_key}
 use Rattle.pass_prunes.specs.StoreRelation.Passes.{PassState}
 use Rattle.pass_prunes.specs.StoreRelation.Steps.{meeting, sighting, with_holder, with_meeting, with_sighting, written_by}
 use Rattle.pass_prunes.specs.RuleModel.Sight.{Sight}
 use Rattle.graph_model.specs.declared.write.Kind.{Kind}
-use Rattle.pass_prunes.specs.RowWrites.Held.{HeldRows}
-use Rattle.pass_prunes.specs.RowWrites.Written.{rows_of, written_keys}
+use Rattle.pass_prunes.specs.RowWrites.Checks.{TellsEdges}
+use Rattle.pass_prunes.specs.RowWrites.Held.{AreHeld, HeldRows}
+use Rattle.pass_prunes.specs.RowWrites.Laying.{MayLay}
+use Rattle.pass_prunes.specs.RowWrites.Written.{all_keys, rows_of, written_keys}
+use Rattle.pass_prunes.specs.RowWritesDeclared.written.WrittenRows.{WrittenRows}
 use Rattle.pass_prunes.specs.StoreRuleDeclared.store.Pass.{Pass}
+use Rattle.pass_prunes.specs.PassCells.Changes.{MissesFew}
 use Rattle.pass_prunes.specs.PassCells.Room.{IsShort, key_of, need_of}
 use Rattle.pass_prunes.specs.PassSteps.Notes.{holder_named, later_noted}
 use Rattle.pass_prunes.specs.PassSteps.Passes.{HasOpenTxn, name_of_pass, pin_of, state_of}
 use Rattle.pass_writes.specs.declared.making.Written.{Written}
 use Rattle.pass_writes.specs.declared.making.Written.TheVariants.{Done, NeedRoom}
-use Rattle.pass_writes.specs.Found.{view_of}
+use Rattle.pass_writes.specs.Found.{MayBeMade, view_of}
 
 -- the pass has an open transaction, of which this was answered, and no reader out
 pub record IsOpenIn (begun : Begun) (pass : Pass) : Type 0 where
@@ -31,6 +36,22 @@ pub record IsOpenIn (begun : Begun) (pass : Pass) : Type 0 where
   pub alone : (state_of pass).readers_out ≡ 0
   pub by : begun.by ≡ name_of_pass pass
   pub start : begun.start ≡ (state_of pass).start
+
+-- the write is within the limits, and this tells whether a vertex that it removes has edges
+pub record KnowsEdges (view : Graph) (w : Write) (has_edges : Bool) : Type 0 where
+  pub within : IsWithinLimits w
+  pub edges : TellsEdges (λ _ answer. answer ≡ has_edges) view w
+
+-- these are the rows of the write, and all of them are held
+pub record HoldsRowsOf (kind : Kind) (c : HeldRows) (w : Write) (rows : WrittenRows) : Type 0 where
+  pub are : rows ≡ rows_of kind w
+  pub held : AreHeld c (all_keys rows)
+
+-- the check has found that the write may be made with these rows
+pub record CanLay (z : Config) (v : Sight) (p : ℕ) (st : PassState) (c : HeldRows) (w : Write) : Type 0 where
+  pub found : MayBeMade z v p st w
+  pub may : MayLay c w
+  pub few : MissesFew z.kind c w
 
 -- only what the pass has found of others has changed
 abbrev pub NotesOnly : PassState → PassState → Type 0

@@ -18,3 +18,8 @@ pub record IsPortion (g : Graph) (old new : Cursor) (before after : List Row) (w
   pub under_way : (first : Cursor) → IsUnderWay g first old before → IsUnderWay g first new after
   pub portion : whole ≡ true → (new.done ≡ true) ⊎ ((new.done ≡ false) × (length after ≡ SCAN_ROWS))
   pub onward : whole ≡ false → (new.done ≡ false) × (length after < SCAN_ROWS)
+
+-- the scan is under way, and keys of its range are still to come
+pub record HasMore (cursor : Cursor) : Type 0 where
+  pub going : cursor.done ≡ false
+  pub ahead : is_below cursor.next cursor.until ≡ true

@@ -3,19 +3,18 @@
 //! 1. The cells stay in hand from the check to the change, so what was found still holds when rows change.
 
 ghost use Rattle.std.specs.Prelude.{◌≡◌, Bool};
-ghost use Rattle.graph_model.specs.Refused.{IsWithinLimits};
-ghost use Rattle.pass_prunes.specs.RuleModel.NoteSteps.{LearnsRows};
-ghost use Rattle.pass_prunes.specs.RowWrites.Checks.{TellsEdges, looked_keys};
+ghost use Rattle.pass_prunes.specs.RowWrites.Checks.{looked_keys};
 ghost use Rattle.pass_prunes.specs.RowWrites.Held.{AreHeld};
 ghost use Rattle.pass_prunes.specs.PassCells.Taken.{rows_in};
-ghost use Rattle.pass_prunes.specs.PassSteps.Asking.{IsSnapshotOf, KnowsLooks, asking_of};
-ghost use Rattle.pass_prunes.specs.PassSteps.Passes.{reader_of_pass, state_of};
+ghost use Rattle.pass_prunes.specs.PassSteps.Asking.{KnowsLooks, asking_of};
+ghost use Rattle.pass_prunes.specs.PassSteps.Passes.{state_of};
 ghost use Rattle.pass_writes.specs.Found.{Finds, view_of};
-ghost use Rattle.pass_writes.specs.Hand.{HasInHand};
+ghost use Rattle.pass_writes.specs.Hand.{ReadsInHand};
+ghost use Rattle.pass_writes.specs.Making.{KnowsEdges};
 
 use graph_model::{Begun, Refusal, Write};
 use pass_prunes::below::{
-    Asker, Fingers, NOWHERE, Pass, PassStates, Store, TakenCells, rows_in_hand_are_known,
+    Asker, Fingers, Pass, PassStates, Store, TakenCells, rows_in_hand_are_known,
 };
 use std::marker::Brand;
 use undo_chain::Snapshot;
@@ -29,15 +28,13 @@ pub fn check(
     clock: u64,
     begun: Begun,
     write: Write,
+    near: &Fingers<usize>,
     has_edges: bool,
 ) -> Result<(), Refusal>
-    requires hand { HasInHand store.now pass.old taken.now.list.items }
-    requires learnt { LearnsRows store.now.accounts.config pass.old.account.me.0 (reader_of_pass pass.old) clock }
-    requires begun { IsSnapshotOf pass.old (record { start = begun.start; own = begun.by }) }
-    requires within { IsWithinLimits write }
+    requires reading { ReadsInHand store.now pass.old taken.now.list.items clock
+        (record { start = begun.start; own = begun.by }) }
     requires held { AreHeld (rows_in taken.now) (looked_keys write) }
-    requires edges { TellsEdges (λ _ answer. answer ≡ has_edges)
-        (view_of store.now.accounts.config.kind (state_of pass.old)) write }
+    requires known { KnowsEdges (view_of store.now.accounts.config.kind (state_of pass.old)) write has_edges }
     ensures looked { KnowsLooks pass.old.account.me.0 pass.old pass.new }
     ensures found { Finds store.now.accounts.config pass.new.account.me.0 pass.old.number (state_of pass.new)
         write result }
@@ -46,7 +43,7 @@ pub fn check(
         start: begun.start,
         own: begun.by,
     };
-    check_as::<Brand>(store, pass, taken, clock, &snapshot, write, has_edges)
+    check_as::<Brand>(store, pass, taken, clock, &snapshot, write, near, has_edges)
 }
 
 /// The same by whoever asks.
@@ -57,16 +54,13 @@ fn check_as<B: Asker>(
     clock: u64,
     snapshot: &Snapshot,
     write: Write,
+    near: &Fingers<usize>,
     has_edges: bool,
 ) -> Result<(), Refusal>
     requires asking { B.asking ≡ asking_of store.now pass.old clock }
-    requires hand { HasInHand store.now pass.old taken.now.list.items }
-    requires learnt { LearnsRows store.now.accounts.config pass.old.account.me.0 (reader_of_pass pass.old) clock }
-    requires snapshot { IsSnapshotOf pass.old snapshot.now }
-    requires within { IsWithinLimits write }
+    requires reading { ReadsInHand store.now pass.old taken.now.list.items clock snapshot.now }
     requires held { AreHeld (rows_in taken.now) (looked_keys write) }
-    requires edges { TellsEdges (λ _ answer. answer ≡ has_edges)
-        (view_of store.now.accounts.config.kind (state_of pass.old)) write }
+    requires known { KnowsEdges (view_of store.now.accounts.config.kind (state_of pass.old)) write has_edges }
     ensures looked { KnowsLooks pass.old.account.me.0 pass.old pass.new }
     ensures found { Finds store.now.accounts.config pass.new.account.me.0 pass.old.number (state_of pass.new)
         write result }
@@ -78,14 +72,7 @@ fn check_as<B: Asker>(
     let seen_before = |_v: u64| -> bool
         ensures { result ≡ has_edges }
     { has_edges };
-    let checked = pass_prunes::below::check(
-        taken,
-        snapshot,
-        &mut states,
-        write,
-        &Fingers::alike(NOWHERE),
-        seen_before,
-    );
+    let checked = pass_prunes::below::check(taken, snapshot, &mut states, write, near, seen_before);
     states.give_back(pass);
     checked
 }

@@ -6,13 +6,12 @@
 ghost use Rattle.std.specs.Prelude.{◌≡◌, ◌≤◌, [], ◌∷◌, ◌++◌, length, take};
 ghost use Rattle.std.specs.List.{AllByRecursion};
 ghost use Rattle.graph_model.specs.Refused.{IsWithinLimits};
-ghost use Rattle.pass_prunes.specs.StoreRelationDeclared.stage.Stage.TheVariants.{Aborting};
 ghost use Rattle.pass_prunes.specs.StoreRelation.Steps.{taken_back};
 ghost use Rattle.pass_prunes.specs.PassCells.Changes.{but_newest, keys_beside};
-ghost use Rattle.pass_prunes.specs.PassSteps.Passes.{IsSamePass, name_of_pass, pin_of, state_of};
+ghost use Rattle.pass_prunes.specs.PassSteps.Passes.{state_of};
 ghost use Rattle.pass_settles.specs.Settled.{IsSettling, StampsKeys};
-ghost use Rattle.pass_writes.specs.Ending.{AreLeft, AreStampedTo, LeavesRows};
-ghost use Rattle.pass_writes.specs.Hand.{HasNothing};
+ghost use Rattle.pass_writes.specs.Ending.{AreLeft, AreStampedTo, IsAborting, LeavesRows};
+ghost use Rattle.pass_writes.specs.Hand.{HasAllBack, HasNothing};
 
 use crate::hand::{put_cells_back, take_cells};
 use crate::keys::FewKeys;
@@ -42,14 +41,11 @@ pub fn undo_all(
     writes: &[Write],
 )
     requires none { HasNothing store.now pass.old cells.old.taken.list.items }
-    requires stage { (state_of pass.old).stage ≡ Aborting }
-    requires name { by ≡ name_of_pass pass.old }
+    requires aborting { IsAborting pass.old by }
     requires writes { (state_of pass.old).laid ≡ writes.now }
     requires within { AllByRecursion IsWithinLimits writes.now }
-    ensures none { HasNothing store.now pass.new cells.new.taken.list.items }
     ensures undone { state_of pass.new ≡ taken_back (state_of pass.old) [] }
-    ensures pin { pin_of pass.new ≡ pin_of pass.old }
-    ensures same { IsSamePass pass.old pass.new }
+    ensures back { HasAllBack store.now pass.old pass.new cells.new.taken.list.items }
 {
     // The newest first, as the records of a row stand: each undo finds its own record in front.
     let mut left = writes.len();
@@ -69,14 +65,11 @@ fn undo_one(
     write: Write,
 )
     requires none { HasNothing store.now pass.old cells.old.taken.list.items }
-    requires stage { (state_of pass.old).stage ≡ Aborting }
-    requires name { by ≡ name_of_pass pass.old }
+    requires aborting { IsAborting pass.old by }
     requires newest { (state_of pass.old).laid ≡ but_newest (state_of pass.old).laid ++ write ∷ [] }
     requires within { IsWithinLimits write }
-    ensures none { HasNothing store.now pass.new cells.new.taken.list.items }
     ensures undone { state_of pass.new ≡ taken_back (state_of pass.old) (but_newest (state_of pass.old).laid) }
-    ensures pin { pin_of pass.new ≡ pin_of pass.old }
-    ensures same { IsSamePass pass.old pass.new }
+    ensures back { HasAllBack store.now pass.old pass.new cells.new.taken.list.items }
 {
     let rows = WrittenRows::of(store.config().kind, write);
     let keys = FewKeys::of_write(&rows);
@@ -102,10 +95,8 @@ pub fn stamp_all(
     requires settling { IsSettling store.now pass.old sweep.now by stamp }
     requires left { AreLeft store.now.accounts.config.kind writes.now (state_of pass.old).unstamped }
     requires within { AllByRecursion IsWithinLimits writes.now }
-    ensures none { HasNothing store.now pass.new cells.new.taken.list.items }
     ensures stamped { LeavesRows [] (state_of pass.old) (state_of pass.new) }
-    ensures pin { pin_of pass.new ≡ pin_of pass.old }
-    ensures same { IsSamePass pass.old pass.new }
+    ensures back { HasAllBack store.now pass.old pass.new cells.new.taken.list.items }
 {
     'writes: for place in 0..writes.len() {
         stamp_one(rt, store, pass, cells, sweep, by, stamp, writes[place]);
@@ -126,10 +117,8 @@ fn stamp_one(
     requires none { HasNothing store.now pass.old cells.old.taken.list.items }
     requires settling { IsSettling store.now pass.old sweep.now by stamp }
     requires within { IsWithinLimits write }
-    ensures none { HasNothing store.now pass.new cells.new.taken.list.items }
     ensures stamped { AreStampedTo store.now.accounts.config.kind write (state_of pass.old) (state_of pass.new) }
-    ensures pin { pin_of pass.new ≡ pin_of pass.old }
-    ensures same { IsSamePass pass.old pass.new }
+    ensures back { HasAllBack store.now pass.old pass.new cells.new.taken.list.items }
 {
     let rows = WrittenRows::of(store.config().kind, write);
     let few = FewKeys::of_changes(&rows);
@@ -158,10 +147,8 @@ fn settle_cells(
     requires settling { IsSettling store.now pass.old sweep.now by stamp }
     requires few { length keys.now ≤ 4 }
     ensures count { result ≤ length keys.now }
-    ensures none { HasNothing store.now pass.new cells.new.taken.list.items }
     ensures stamped { StampsKeys (take result keys.now) (state_of pass.old) (state_of pass.new) }
-    ensures pin { pin_of pass.new ≡ pin_of pass.old }
-    ensures same { IsSamePass pass.old pass.new }
+    ensures back { HasAllBack store.now pass.old pass.new cells.new.taken.list.items }
 {
     // The cells of a write are asked for once more, so the hints still have most of them. A wrong guess ends the cheap
     // way at its key.
@@ -184,11 +171,9 @@ fn stamp_in_hand(
     requires none { HasNothing store.now pass.old cells.old.taken.list.items }
     requires settling { IsSettling store.now pass.old sweep.now by stamp }
     requires few { length keys.now ≤ 4 }
-    ensures none { HasNothing store.now pass.new cells.new.taken.list.items }
     ensures stamped { LeavesRows (keys_beside keys.now (state_of pass.old).unstamped) (state_of pass.old)
         (state_of pass.new) }
-    ensures pin { pin_of pass.new ≡ pin_of pass.old }
-    ensures same { IsSamePass pass.old pass.new }
+    ensures back { HasAllBack store.now pass.old pass.new cells.new.taken.list.items }
 {
     take_cells(rt, store, pass, cells, keys);
     cells.stamp(store, pass, by, stamp, keys);

@@ -5,18 +5,13 @@
 
 ghost use Rattle.std.specs.Prelude.{◌≡◌, Err, IfOk, OnErr};
 ghost use Rattle.graph_model.specs.Refused.{IsWithinLimits};
-ghost use Rattle.pass_prunes.specs.RuleModel.NoteSteps.{LearnsRows};
-ghost use Rattle.pass_prunes.specs.RowWrites.Checks.{TellsEdges};
-ghost use Rattle.pass_prunes.specs.RowWrites.Held.{AreHeld};
-ghost use Rattle.pass_prunes.specs.RowWrites.Laying.{MayLay};
-ghost use Rattle.pass_prunes.specs.RowWrites.Written.{all_keys, rows_of, written_keys};
+ghost use Rattle.pass_prunes.specs.RowWrites.Written.{written_keys};
 ghost use Rattle.pass_prunes.specs.StoreRule.Passes.{OnlyAccount};
-ghost use Rattle.pass_prunes.specs.PassCells.Changes.{MissesFew};
 ghost use Rattle.pass_prunes.specs.PassCells.Taken.{rows_in};
-ghost use Rattle.pass_prunes.specs.PassSteps.Passes.{IsPassOf, IsSamePass, name_of_pass, pin_of, state_of};
-ghost use Rattle.pass_writes.specs.Found.{Finds, MayBeMade, view_of};
-ghost use Rattle.pass_writes.specs.Hand.{HasInHand, HasNothing};
-ghost use Rattle.pass_writes.specs.Making.{IsForInsert, IsOpenIn, IsShortOf, Lays, Makes, NeedsRoom, after_refusal, noted};
+ghost use Rattle.pass_prunes.specs.PassSteps.Passes.{IsPassOf, state_of};
+ghost use Rattle.pass_writes.specs.Found.{Finds, view_of};
+ghost use Rattle.pass_writes.specs.Hand.{HasAllBack, HasInHand, HasNothing, KeepsInHand};
+ghost use Rattle.pass_writes.specs.Making.{CanLay, HoldsRowsOf, IsForInsert, IsOpenIn, IsShortOf, KnowsEdges, Lays, Makes, NeedsRoom, after_refusal, noted};
 ghost use Rattle.graph_model.specs.declared.refusal.Refusal.TheVariants as refusals;
 
 use crate::checks::check;
@@ -24,8 +19,8 @@ use crate::hand::{put_cells_back, take_cells};
 use crate::keys::FewKeys;
 use graph_model::{Begun, Cause, NoMemory, Refusal, TxnName, Write};
 use pass_prunes::below::{
-    Fingers, FoundRows, NOWHERE, Pass, PassCells, RoomNeed, Store, TakenCells, WrittenRows, learn,
-    name_holder, note_later, rows_in_hand_are_known,
+    FoundRows, Pass, PassCells, RoomNeed, Store, TakenCells, WrittenRows, learn, name_holder,
+    note_later, rows_in_hand_are_known,
 };
 use std::sync::Wait;
 use undo_chain::Touched;
@@ -51,15 +46,11 @@ pub fn write(
 ) -> Result<Written, Refusal>
     requires none { HasNothing store.now pass.old cells.old.taken.list.items }
     requires opened { IsOpenIn begun pass.old }
-    requires within { IsWithinLimits write }
-    requires edges { TellsEdges (λ _ answer. answer ≡ has_edges)
-        (view_of store.now.accounts.config.kind (state_of pass.old)) write }
-    ensures none { HasNothing store.now pass.new cells.new.taken.list.items }
+    requires known { KnowsEdges (view_of store.now.accounts.config.kind (state_of pass.old)) write has_edges }
     ensures makes { Makes store.now.accounts.config pass.old.number (state_of pass.old) write result
         (state_of pass.new) }
     ensures room { IfOk result (λ written. NeedsRoom store.now.accounts.config.kind write written) }
-    ensures pin { pin_of pass.new ≡ pin_of pass.old }
-    ensures same { IsSamePass pass.old pass.new }
+    ensures back { HasAllBack store.now pass.old pass.new cells.new.taken.list.items }
 {
     let rows = WrittenRows::of(store.config().kind, write);
     let keys = FewKeys::of_write(&rows);
@@ -82,25 +73,31 @@ fn write_in_hand(
 ) -> Result<Written, Refusal>
     requires hand { HasInHand store.now pass.old cells.old.taken.list.items }
     requires opened { IsOpenIn begun pass.old }
-    requires within { IsWithinLimits write }
-    requires rows { rows.now ≡ rows_of store.now.accounts.config.kind write }
-    requires held { AreHeld (rows_in cells.old.taken) (all_keys rows.now) }
-    requires edges { TellsEdges (λ _ answer. answer ≡ has_edges)
-        (view_of store.now.accounts.config.kind (state_of pass.old)) write }
-    ensures hand { HasInHand store.now pass.new cells.new.taken.list.items }
+    requires rows { HoldsRowsOf store.now.accounts.config.kind (rows_in cells.old.taken) write rows.now }
+    requires known { KnowsEdges (view_of store.now.accounts.config.kind (state_of pass.old)) write has_edges }
     ensures makes { Makes store.now.accounts.config pass.old.number (state_of pass.old) write result
         (state_of pass.new) }
     ensures short { IfOk result (λ written. IsShortOf (rows_in cells.old.taken) (written_keys rows.now) written
         × IsForInsert write written) }
-    ensures pin { pin_of pass.new ≡ pin_of pass.old }
-    ensures same { IsSamePass pass.old pass.new }
+    ensures still { KeepsInHand store.now pass.old pass.new cells.new.taken.list.items }
 {
     rows_in_hand_are_known();
     // Once, with all cells in hand: a commit is published by then or isn't, and that for all of its rows alike.
     let clock = learn(store, pass);
     let taken = &cells.taken;
-    match check(store, pass, taken, clock, begun, write, has_edges) {
-        Ok(()) => match lay(store, pass, cells, begun.by, write, rows) {
+    // Each row is searched for once.
+    let found = taken.find(rows);
+    match check(
+        store,
+        pass,
+        taken,
+        clock,
+        begun,
+        write,
+        &found.near,
+        has_edges,
+    ) {
+        Ok(()) => match lay(store, pass, cells, begun.by, write, &found) {
             Ok(written) => Ok(written),
             Err(NoMemory) => Err(Refusal::NoMemory),
         },
@@ -116,10 +113,8 @@ fn note_refusal(store: &Store, pass: &mut Pass, taken: &TakenCells, write: Write
     requires hand { HasInHand store.now pass.old taken.now.list.items }
     requires found { Finds store.now.accounts.config pass.old.account.me.0 pass.old.number (state_of pass.old) write
         (Err refusal) }
-    ensures hand { HasInHand store.now pass.new taken.now.list.items }
     ensures state { state_of pass.new ≡ after_refusal write refusal (state_of pass.old) }
-    ensures pin { pin_of pass.new ≡ pin_of pass.old }
-    ensures same { IsSamePass pass.old pass.new }
+    ensures still { KeepsInHand store.now pass.old pass.new taken.now.list.items }
 {
     match refusal {
         Refusal::Conflict { cause } => note(store, pass, write, cause),
@@ -154,32 +149,23 @@ fn lay(
     cells: &mut PassCells,
     by: TxnName,
     write: Write,
-    rows: &WrittenRows,
+    found: &FoundRows<usize>,
 ) -> Result<Written, NoMemory>
     requires hand { HasInHand store.now pass.old cells.old.taken.list.items }
     requires opened { IsOpenIn (record { by = by; start = (state_of pass.old).start }) pass.old }
     requires within { IsWithinLimits write }
-    requires rows { rows.now ≡ rows_of store.now.accounts.config.kind write }
-    requires held { AreHeld (rows_in cells.old.taken) (all_keys rows.now) }
-    requires found { MayBeMade store.now.accounts.config pass.old.account.me.0 pass.old.number (state_of pass.old)
-        write }
-    requires may { MayLay (rows_in cells.old.taken) write }
-    requires few { MissesFew store.now.accounts.config.kind (rows_in cells.old.taken) write }
-    ensures hand { HasInHand store.now pass.new cells.new.taken.list.items }
+    requires rows { HoldsRowsOf store.now.accounts.config.kind (rows_in cells.old.taken) write found.now.rows }
+    requires can { CanLay store.now.accounts.config pass.old.account.me.0 pass.old.number (state_of pass.old)
+        (rows_in cells.old.taken) write }
     ensures ok { IfOk result (λ written. Lays (state_of pass.old) write written (state_of pass.new)
-        × IsShortOf (rows_in cells.old.taken) (written_keys rows.now) written × IsForInsert write written) }
+        × IsShortOf (rows_in cells.old.taken) (written_keys found.now.rows) written × IsForInsert write written) }
     ensures err { OnErr result (state_of pass.new ≡ state_of pass.old) }
-    ensures pin { pin_of pass.new ≡ pin_of pass.old }
-    ensures same { IsSamePass pass.old pass.new }
+    ensures still { KeepsInHand store.now pass.old pass.new cells.new.taken.list.items }
 {
     // Before a row changes: a write with places for some of its rows alone would have to be taken back.
-    if let Some(short) = cells.taken.room_need(rows) {
+    if let Some(short) = cells.taken.room_need(found) {
         return Ok(Written::NeedRoom(short));
     }
-    let found = FoundRows {
-        rows: *rows,
-        near: Fingers::alike(NOWHERE),
-    };
-    cells.write(store, pass, by, write, &found, Touched::Maybe)?;
+    cells.write(store, pass, by, write, found, Touched::Maybe)?;
     Ok(Written::Done)
 }

@@ -4,12 +4,11 @@
 
 ghost use Rattle.std.specs.Prelude.{◌≡◌, true};
 ghost use Rattle.graph_model.specs.Rows.{value_at};
-ghost use Rattle.pass_prunes.specs.RuleModel.NoteSteps.{LearnsRows};
 ghost use Rattle.pass_prunes.specs.PassCells.Taken.{rows_in};
-ghost use Rattle.pass_prunes.specs.PassSteps.Asking.{IsSnapshotOf, KnowsLooks, asking_of};
-ghost use Rattle.pass_prunes.specs.PassSteps.Passes.{IsSamePass, name_of_pass, pin_of, reader_of_pass, state_of};
+ghost use Rattle.pass_prunes.specs.PassSteps.Asking.{KnowsLooks, asking_of};
+ghost use Rattle.pass_prunes.specs.PassSteps.Passes.{state_of};
 ghost use Rattle.pass_writes.specs.Found.{view_of};
-ghost use Rattle.pass_writes.specs.Hand.{HasInHand, HasNothing};
+ghost use Rattle.pass_writes.specs.Hand.{HasAllBack, HasNothing, ReadsInHand};
 ghost use Rattle.pass_writes.specs.Making.{IsOpenIn, NotesOnly};
 
 use crate::hand::{put_cells_back, take_cells};
@@ -32,11 +31,9 @@ pub fn value(
 ) -> Option<u64>
     requires none { HasNothing store.now pass.old cells.old.taken.list.items }
     requires opened { IsOpenIn begun pass.old }
-    ensures none { HasNothing store.now pass.new cells.new.taken.list.items }
     ensures value { result ≡ value_at (view_of store.now.accounts.config.kind (state_of pass.old)) key }
     ensures state { NotesOnly (state_of pass.old) (state_of pass.new) }
-    ensures pin { pin_of pass.new ≡ pin_of pass.old }
-    ensures same { IsSamePass pass.old pass.new }
+    ensures back { HasAllBack store.now pass.old pass.new cells.new.taken.list.items }
 {
     take_cells(rt, store, pass, cells, &[key]);
     let clock = learn(store, pass);
@@ -58,9 +55,7 @@ fn value_in_hand(
     snapshot: &Snapshot,
     key: Key,
 ) -> Option<u64>
-    requires hand { HasInHand store.now pass.old taken.now.list.items }
-    requires learnt { LearnsRows store.now.accounts.config pass.old.account.me.0 (reader_of_pass pass.old) clock }
-    requires snapshot { IsSnapshotOf pass.old snapshot.now }
+    requires reading { ReadsInHand store.now pass.old taken.now.list.items clock snapshot.now }
     requires held { (rows_in taken.now).holds key ≡ true }
     ensures looked { KnowsLooks pass.old.account.me.0 pass.old pass.new }
     ensures value { result ≡ value_at (view_of store.now.accounts.config.kind (state_of pass.old)) key }
@@ -78,9 +73,7 @@ fn value_as<B: Asker>(
     key: Key,
 ) -> Option<u64>
     requires asking { B.asking ≡ asking_of store.now pass.old clock }
-    requires hand { HasInHand store.now pass.old taken.now.list.items }
-    requires learnt { LearnsRows store.now.accounts.config pass.old.account.me.0 (reader_of_pass pass.old) clock }
-    requires snapshot { IsSnapshotOf pass.old snapshot.now }
+    requires reading { ReadsInHand store.now pass.old taken.now.list.items clock snapshot.now }
     requires held { (rows_in taken.now).holds key ≡ true }
     ensures looked { KnowsLooks pass.old.account.me.0 pass.old pass.new }
     ensures value { result ≡ value_at (view_of store.now.accounts.config.kind (state_of pass.old)) key }

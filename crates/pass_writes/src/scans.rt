@@ -9,14 +9,13 @@ ghost use Rattle.graph_model.specs.Graph.{Graph};
 ghost use Rattle.graph_model.specs.Rows.{is_below, rows};
 ghost use Rattle.graph_model.specs.Scans.{ScansBy, rows_left};
 ghost use Rattle.edge_scan.specs.Steps.{IsUnderWay, end_of};
-ghost use Rattle.pass_prunes.specs.RuleModel.NoteSteps.{LearnsRows};
 ghost use Rattle.pass_prunes.specs.PassCells.Taken.{rows_in};
-ghost use Rattle.pass_prunes.specs.PassSteps.Asking.{IsSnapshotOf, KnowsLooks, asking_of};
-ghost use Rattle.pass_prunes.specs.PassSteps.Passes.{IsSamePass, pin_of, reader_of_pass, state_of};
+ghost use Rattle.pass_prunes.specs.PassSteps.Asking.{KnowsLooks, asking_of};
+ghost use Rattle.pass_prunes.specs.PassSteps.Passes.{state_of};
 ghost use Rattle.pass_writes.specs.Found.{view_of};
-ghost use Rattle.pass_writes.specs.Hand.{HasInHand, HasNothing};
+ghost use Rattle.pass_writes.specs.Hand.{HasAllBack, HasNothing, ReadsInHand};
 ghost use Rattle.pass_writes.specs.Making.{IsOpenIn, NotesOnly};
-ghost use Rattle.pass_writes.specs.Scanning.{EndsWithKeys, IsPortion};
+ghost use Rattle.pass_writes.specs.Scanning.{EndsWithKeys, HasMore, IsPortion};
 
 use crate::hand::{put_cells_back, take_cells};
 use edge_scan::step;
@@ -42,11 +41,9 @@ pub fn scan(
     requires opened { IsOpenIn begun pass.old }
     requires ends { EndsWithKeys (view_of store.now.accounts.config.kind (state_of pass.old)) }
     requires going { cursor.old.done ≡ false }
-    ensures none { HasNothing store.now pass.new cells.new.taken.list.items }
     ensures answer { ScansBy (view_of store.now.accounts.config.kind (state_of pass.old)) cursor.old cursor.new rows.new }
     ensures state { NotesOnly (state_of pass.old) (state_of pass.new) }
-    ensures pin { pin_of pass.new ≡ pin_of pass.old }
-    ensures same { IsSamePass pass.old pass.new }
+    ensures back { HasAllBack store.now pass.old pass.new cells.new.taken.list.items }
 {
     rows.clear();
     let mut buffer = Rows32::new();
@@ -84,14 +81,11 @@ fn scan_cell(
 ) -> bool
     requires none { HasNothing store.now pass.old cells.old.taken.list.items }
     requires opened { IsOpenIn begun pass.old }
-    requires going { cursor.old.done ≡ false }
-    requires ahead { is_below cursor.old.next cursor.old.until ≡ true }
-    ensures none { HasNothing store.now pass.new cells.new.taken.list.items }
+    requires more { HasMore cursor.old }
     ensures portion { IsPortion (view_of store.now.accounts.config.kind (state_of pass.old)) cursor.old cursor.new
         rows.old rows.new result }
     ensures state { NotesOnly (state_of pass.old) (state_of pass.new) }
-    ensures pin { pin_of pass.new ≡ pin_of pass.old }
-    ensures same { IsSamePass pass.old pass.new }
+    ensures back { HasAllBack store.now pass.old pass.new cells.new.taken.list.items }
 {
     take_cells(rt, store, pass, cells, &[cursor.next]);
     // Each cell by a clock of its own: whoever commits meanwhile has a stamp above the transaction's start.
@@ -118,12 +112,9 @@ fn scan_in_hand(
     rows: &mut Rows64,
     buffer: &mut Rows32,
 ) -> bool
-    requires hand { HasInHand store.now pass.old taken.now.list.items }
-    requires learnt { LearnsRows store.now.accounts.config pass.old.account.me.0 (reader_of_pass pass.old) clock }
-    requires snapshot { IsSnapshotOf pass.old snapshot.now }
+    requires reading { ReadsInHand store.now pass.old taken.now.list.items clock snapshot.now }
     requires held { (rows_in taken.now).holds cursor.old.next ≡ true }
-    requires going { cursor.old.done ≡ false }
-    requires ahead { is_below cursor.old.next cursor.old.until ≡ true }
+    requires more { HasMore cursor.old }
     ensures looked { KnowsLooks pass.old.account.me.0 pass.old pass.new }
     ensures portion { IsPortion (view_of store.now.accounts.config.kind (state_of pass.old)) cursor.old cursor.new
         rows.old rows.new result }
@@ -143,12 +134,9 @@ fn scan_as<B: Asker>(
     buffer: &mut Rows32,
 ) -> bool
     requires asking { B.asking ≡ asking_of store.now pass.old clock }
-    requires hand { HasInHand store.now pass.old taken.now.list.items }
-    requires learnt { LearnsRows store.now.accounts.config pass.old.account.me.0 (reader_of_pass pass.old) clock }
-    requires snapshot { IsSnapshotOf pass.old snapshot.now }
+    requires reading { ReadsInHand store.now pass.old taken.now.list.items clock snapshot.now }
     requires held { (rows_in taken.now).holds cursor.old.next ≡ true }
-    requires going { cursor.old.done ≡ false }
-    requires ahead { is_below cursor.old.next cursor.old.until ≡ true }
+    requires more { HasMore cursor.old }
     ensures looked { KnowsLooks pass.old.account.me.0 pass.old pass.new }
     ensures portion { IsPortion (view_of store.now.accounts.config.kind (state_of pass.old)) cursor.old cursor.new
         rows.old rows.new result }

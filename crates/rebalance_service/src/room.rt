@@ -3,8 +3,8 @@
 //! 1. It is made with no cell of the write in hand, since it takes whole leaves.
 //! 2. It changes no view, so nothing has to be taken back where the write isn't made after all.
 
-ghost use Rattle.std.specs.Prelude.{◌≡◌, ◌≤◌, true, IfErr, IsSome, OnOk};
-ghost use Rattle.graph_model.specs.Rows.{is_below, end_key};
+ghost use Rattle.std.specs.Prelude.{◌≡◌, IfErr, IsSome, OnOk};
+ghost use Rattle.pass_room.specs.Making.{MayAskFor};
 ghost use Rattle.reader_parts.specs.SharedStore.Passes.{IsOpen, account_of};
 ghost use Rattle.rebalance_service.specs.Room.{IsRoomRefusal, account_after};
 
@@ -27,9 +27,7 @@ pub(crate) fn room_for(
     need: u8,
 ) -> Result<(), RoomRefusal>
     requires opened { IsOpen store.now pass.old }
-    requires below { is_below key end_key ≡ true }
-    requires some { 1 ≤ need }
-    requires few { need ≤ 2 }
+    requires asked { MayAskFor key need }
     ensures opened { IsOpen store.now pass.new }
     ensures account { account_of store.now pass.new ≡ account_after result (account_of store.now pass.old) }
     ensures refused { IfErr result (IsRoomRefusal store.now.accounts.config.leaves) }

@@ -1,10 +1,12 @@
 -- What a closed store shows is what a run of scripts side by side asks for.
-use Rattle.std.proofs.Common.{◌≡◌, ℕ, zero, suc, ◌+◌, ◌*◌, ◌<◌, ◌≤◌, List, [], ◌∷◌, ◌++◌, length, map, refl, sym, ◌∙◌, ap, subst, arith, inr, length-append}
+use Rattle.std.proofs.Common.{◌≡◌, ℕ, zero, suc, ◌+◌, ◌*◌, ◌<◌, ◌≤◌, List, [], ◌∷◌, ◌++◌, length, map, refl, sym, ◌∙◌, ap, subst, arith, inl, inr, length-append}
 use Rattle.std.proofs.lemmas.List.{length-map}
-use Rattle.std.specs.Prelude.{true, Some, slice_get}
+use Rattle.std.specs.Prelude.{◌⊎◌, true, Some, slice_get}
+use Rattle.std.specs.List.{flat_map}
 use Rattle.graph_model.specs.declared.limits.TheConstants.{SPLIT_ROWS}
 use Rattle.graph_model.specs.declared.journal.Commit.{Commit}
 use Rattle.graph_model.specs.Account.{Account}
+use Rattle.graph_model.specs.Inserted.{inserted}
 use Rattle.graph_model.specs.Legal.{IsLegal}
 use Rattle.graph_model.proofs.PlaceLemmas.{some_eq}
 use Rattle.run_model.specs.declared.answer.Answer.{Answer}
@@ -14,7 +16,7 @@ use Rattle.run_model.specs.Run.{load_stamp}
 use Rattle.run_model.proofs.ListLemmas.{all_weaker, there}
 use Rattle.side_runs.specs.ByAccount.{HasRunBy}
 use Rattle.side_runs.specs.SideBySide as sides
-use Rattle.side_runs.specs.SideBySide.{HaveRunBy, made_by_load}
+use Rattle.side_runs.specs.SideBySide.{HaveRunBy, inserted_by_pass, made_by_load}
 use Rattle.side_runs.proofs.ClosingLemmas.{is_run, are_made}
 use Rattle.job_runner.specs.LineRunner.Phases.{file_of}
 use Rattle.job_runner.specs.Progress.{Progress}
@@ -25,7 +27,7 @@ use Rattle.shared_store.specs.StoreRelation.Ends.{IsMatched}
 use Rattle.shared_store.specs.PassSteps.Passes.{state_of}
 use Rattle.shared_store.specs.declared.pass.Pass.{Pass}
 use Rattle.shared_store.specs.Ends.{HasClosed}
-use Rattle.shared_runs.specs.Closing.{HaveRunOn, outputs_with, ClosedStoresLeaveRuns}
+use Rattle.shared_runs.specs.Closing.{HaveRunOn, OthersMadeNothing, outputs_with, ClosedStoresLeaveRuns}
 
 same_sum : (f : ℕ → ℕ) (n : ℕ) → shared.sum_below f n ≡ sides.sum_below f n
 same_sum f zero = refl
@@ -42,7 +44,24 @@ below_length [] k x e = cc
 below_length (y ∷ xs) zero x e = omega arith
 below_length (y ∷ xs) (suc k) x e = let lt = below_length xs k x e in omega (arith, lt)
 
-module _ (inputs : Inputs) (z : Config) (list : List Pass) (jobs : List Progress) (journal : List Commit) (have : HaveRunOn inputs z list jobs) (is : HasClosed z list journal) where
+below : (p n : ℕ) → (p < n) ⊎ (n ≤ p)
+below p zero = inr (omega arith)
+below zero (suc n) = inl (omega arith)
+below (suc p) (suc n) = elim (below p n) as (λ _. (suc p < suc n) ⊎ (suc n ≤ suc p)) [
+  | inl lt ↦ inl (omega (arith, lt))
+  | inr le ↦ inr (omega (arith, le))
+]
+
+-- a sum with nothing more behind a place is that up to there
+sum_to : (f : ℕ → ℕ) (n m : ℕ) → n ≤ m → ((p : ℕ) → n ≤ p → f p ≡ 0) → sides.sum_below f m ≡ sides.sum_below f n
+sum_to f n zero le none = let same : zero ≡ n = omega (arith, le) in ap (sides.sum_below f) same
+sum_to f n (suc m) le none = by_place (below m n) (λ more. sum_to f n m more none)
+  where
+    by_place : (m < n) ⊎ (n ≤ m) → (n ≤ m → sides.sum_below f m ≡ sides.sum_below f n) → sides.sum_below f (suc m) ≡ sides.sum_below f n
+    by_place (inl lt) before = let same : suc m ≡ n = omega (arith, le, lt) in ap (sides.sum_below f) same
+    by_place (inr more) before = let last = none m more in let rest = before more in omega (arith, last, rest)
+
+module _ (inputs : Inputs) (z : Config) (list : List Pass) (jobs : List Progress) (journal : List Commit) (have : HaveRunOn inputs z list jobs) (others : OthersMadeNothing (length inputs.scripts) z list) (is : HasClosed z list journal) where
   abbrev accounts : ℕ → Account
   accounts p = account_of z p (is.pass p)
 
@@ -71,13 +90,26 @@ module _ (inputs : Inputs) (z : Config) (list : List Pass) (jobs : List Progress
       let seen = have.loaded.seen in
       omega (arith, long, same, seen)
 
+  -- passes behind those of the scripts have made nothing, whether the store has them or not
+  outside : (p : ℕ) → length inputs.scripts < p → (accounts p).made ≡ []
+  outside p lt = by_place (below p z.passes)
+    where
+      by_place : (p < z.passes) ⊎ (z.passes ≤ p) → (accounts p).made ≡ []
+      by_place (inl inside) = let spare = others p lt inside in ap made_of (is.known p spare.pass spare.there) ∙ spare.made
+      by_place (inr beyond) = is.closed.outside p beyond
+
+  -- so none of their rows are counted
+  counted : sides.sum_below (λ q. inserted_by_pass inputs.kind (accounts q)) z.passes ≡ sides.sum_below (λ q. inserted_by_pass inputs.kind (accounts q)) (length inputs.scripts + 1)
+  counted = sum_to (λ q. inserted_by_pass inputs.kind (accounts q)) (length inputs.scripts + 1) z.passes have.passes
+      (λ p le. ap (λ ws. inserted inputs.kind (flat_map (λ w. w) ws)) (outside p (omega (arith, le))))
+
   have_run : HaveRunBy inputs z.leaves accounts (outputs_with journal jobs)
   have_run = record {
     reported = length-map jobs (λ (job : Progress). job.answers) ∙ have.count;
     filed = length-map jobs (λ (job : Progress). map file_of job.tables) ∙ have.count;
     ran = ran;
     loader = ap made_of loader_is ∙ have.loaded.made;
-    outside = λ p lt. is.closed.outside p (let same = have.passes in omega (arith, lt, same));
+    outside = outside;
     legal = subst (λ k. IsLegal k journal) have.kind is.closed.legal;
     seen = λ p. (let s = is.closed.seen p in (s.0, sym s.1));
     loaded = loaded;
@@ -86,14 +118,14 @@ module _ (inputs : Inputs) (z : Config) (list : List Pass) (jobs : List Progress
     matched = λ p. all_weaker (IsMatched z.kind is.pass journal) (sides.IsMatched inputs.kind accounts journal)
         (λ x m. subst (λ k. sides.IsMatched k accounts journal x) have.kind (record { made = m.made; behind = m.behind })) (is.pass p).sighted (is.closed.sighted p);
     filled = λ p full.
-        subst (λ n. SPLIT_ROWS * z.leaves ≤ sides.sum_below (λ q. sides.inserted_by_pass inputs.kind (accounts q)) n) have.passes
-        (subst (λ k. SPLIT_ROWS * z.leaves ≤ sides.sum_below (λ q. sides.inserted_by_pass k (accounts q)) z.passes) have.kind
-        (subst (λ n. SPLIT_ROWS * z.leaves ≤ n) (same_sum (λ q. sides.inserted_by_pass z.kind (accounts q)) z.passes) (is.closed.filled p full)));
+        subst (λ n. SPLIT_ROWS * z.leaves ≤ n) counted
+        (subst (λ k. SPLIT_ROWS * z.leaves ≤ sides.sum_below (λ q. inserted_by_pass k (accounts q)) z.passes) have.kind
+        (subst (λ n. SPLIT_ROWS * z.leaves ≤ n) (same_sum (λ q. inserted_by_pass z.kind (accounts q)) z.passes) (is.closed.filled p full)));
   }
 
 pub leave_runs : ClosedStoresLeaveRuns
-leave_runs inputs z list jobs journal given have is =
-    let by = have_run inputs z list jobs journal have is in
+leave_runs inputs z list jobs journal given have others is =
+    let by = have_run inputs z list jobs journal have others is in
     let passes : ℕ → Account = λ p. account_of z p (is.pass p) in (
       is_run inputs z.leaves passes (outputs_with journal jobs) given by,
       record {

@@ -1,5 +1,5 @@
 -- Scripts that ran on the passes of a shared store, and the store that was closed behind them.
-use Rattle.std.specs.Prelude.{◌≡◌, ℕ, ◌+◌, ◌≤◌, List, length, map, slice_get, Some}
+use Rattle.std.specs.Prelude.{◌≡◌, ℕ, ◌+◌, ◌<◌, ◌≤◌, List, [], length, map, slice_get, Some}
 use Rattle.graph_model.specs.declared.journal.Commit.{Commit}
 use Rattle.graph_model.specs.declared.write.Write.{Write}
 use Rattle.graph_model.specs.Account.{Account}
@@ -47,13 +47,23 @@ pub record HasRunOn (inputs : Inputs) (z : Config) (list : List Pass) (k : ℕ) 
 -- all scripts did, and pass 0 has the load
 pub record HaveRunOn (inputs : Inputs) (z : Config) (list : List Pass) (jobs : List Progress) : Type 0 where
   pub kind : z.kind ≡ inputs.kind
-  pub passes : z.passes ≡ length inputs.scripts + 1
+  pub passes : length inputs.scripts + 1 ≤ z.passes
   pub count : length jobs ≡ length inputs.scripts
   pub loader : Pass
   pub first : slice_get list 0 ≡ Some loader
   pub loaded : HasLoaded inputs.load (account_in z 0 loader)
   pub ran : (k : ℕ) (cs : List Command) (job : Progress) → slice_get inputs.scripts k ≡ Some cs
       → slice_get jobs k ≡ Some job → HasRunOn inputs z list k cs job
+
+-- the pass of this number has made nothing
+pub record HasMadeNothing (z : Config) (list : List Pass) (p : ℕ) : Type 0 where
+  pub pass : Pass
+  pub there : slice_get list p ≡ Some pass
+  pub made : (account_in z p pass).made ≡ []
+
+-- nor has any pass behind those of so many scripts
+abbrev pub OthersMadeNothing : ℕ → Config → List Pass → Type 0
+OthersMadeNothing scripts z list = (p : ℕ) → scripts < p → p < z.passes → HasMadeNothing z list p
 
 -- ---- what is left
 
@@ -70,5 +80,6 @@ pub record LeavesRun (inputs : Inputs) (leaves : ℕ) (outputs : Outputs) : Type
 abbrev pub ClosedStoresLeaveRuns : Type 0
 ClosedStoresLeaveRuns =
     (inputs : Inputs) (z : Config) (list : List Pass) (jobs : List Progress) (journal : List Commit)
-    → AreInputs inputs → HaveRunOn inputs z list jobs → HasClosed z list journal
+    → AreInputs inputs → HaveRunOn inputs z list jobs → OthersMadeNothing (length inputs.scripts) z list
+    → HasClosed z list journal
     → IsRun inputs z.leaves (outputs_with journal jobs) × LeavesRun inputs z.leaves (outputs_with journal jobs)

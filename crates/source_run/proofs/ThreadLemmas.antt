@@ -21,11 +21,32 @@ use Rattle.txn_manager.specs.declared.config.Totals.{Totals}
 use Rattle.threaded_run.specs.SharedStore.Totals.{AreTotals, edges_of}
 use Rattle.threaded_run.specs.declared.run.ThreadedRun.{ThreadedRun}
 use Rattle.threaded_run.specs.Running.{CanRun, IsStopped, inputs_on}
-use Rattle.source_run.specs.Running.{HasCounts, IsConfig, IsRefusedLoad}
+use Rattle.source_run.specs.Running.{HasCounts, IsConfig, IsRefusedLoad, MayBegin, with_readers}
 use Rattle.source_run.proofs.RunLemmas.{load_adds}
 
+-- ---- the store
+
+-- what a run on threads asks of it: a pass for each script and one for the load, and maybe more
+pub record IsConfigFor (kind : Kind) (leaves : ℕ) (scripts : List (List Command)) (config : Config) : Type 0 where
+  pub kind_is : config.kind ≡ kind
+  pub leaves_are : config.leaves ≡ leaves
+  pub passes : length scripts + 1 ≤ config.passes
+  pub begins : MayBegin scripts config.txns_per_pass
+
+pub read_beside : (kind : Kind) (leaves : ℕ) (given scripts : List (List Command)) (threads : ℕ) (base config : Config) → IsConfig kind leaves given base → given ≡ scripts
+    → config ≡ with_readers threads base → IsConfigFor kind leaves scripts config
+read_beside kind leaves given scripts threads base config is same with =
+    subst (λ (u : List (List Command) × Config). IsConfigFor kind leaves u.0 u.1) (λ i. (same i, sym with i)) (record {
+      kind_is = is.kind_is;
+      leaves_are = is.leaves_are;
+      passes = (let passes = is.passes in omega (arith, passes));
+      begins = is.begins;
+    })
+
+-- ---- what runs on it
+
 module _ (kind : Kind) (leaves : ℕ) (ids : List ℕ) (edges : List Edge) (scripts : List (List Command)) (config : Config) (load : List Write) (made : load ≡ load_of ids edges)
-    (is : IsConfig kind leaves scripts config) where
+    (is : IsConfigFor kind leaves scripts config) where
   abbrev inputs : Inputs
   inputs = record { kind = kind; load = load_of ids edges; scripts = scripts }
 
@@ -37,7 +58,7 @@ module _ (kind : Kind) (leaves : ℕ) (ids : List ℕ) (edges : List Edge) (scri
     inputs_are = given;
     load = record { adds = load_adds ids edges; allowed = given.allowed; within = given.within };
     kind = is.kind_is;
-    passes = is.passes ∙ omega arith;
+    passes = is.passes;
     begins = is.begins;
   })
 
@@ -65,7 +86,7 @@ counts_on kind asked journal totals same are = subst (λ k. HasCounts k journal 
 -- ---- of what the call answers
 
 module _ (kind : Kind) (leaves : ℕ) (ids : List ℕ) (edges : List Edge) (scripts : List (List Command)) (config : Config) (load : List Write) (made : load ≡ load_of ids edges)
-    (is : IsConfig kind leaves scripts config) where
+    (is : IsConfigFor kind leaves scripts config) where
   pub all_refused : (result : Result ThreadedRun LoadRefusal) → IfErr result (IsStopped config load) → IfErr result (IsRefusedLoad kind leaves ids edges)
   all_refused (Ok r) stopped = tt
   all_refused (Err refusal) stopped = refused kind leaves ids edges scripts config load made is refusal stopped

@@ -1,7 +1,7 @@
 -- What the run of the scripts leaves, as the code has it.
-use Rattle.std.specs.Prelude.{◌≡◌, ℕ, suc, ◌-◌, ◌*◌, ◌^◌, ◌<◌, ◌≤◌, ◌⊎◌, min, Bool, true, false, List, length, All, slice_get, Option, Some, None}
+use Rattle.std.specs.Prelude.{◌≡◌, ℕ, suc, ◌+◌, ◌-◌, ◌*◌, ◌^◌, ◌<◌, ◌≤◌, ◌⊎◌, min, Bool, true, false, List, length, All, slice_get, Option, Some, None}
 use Rattle.std.specs.List.{AllByRecursion}
-use Rattle.graph_model.specs.declared.limits.TheConstants.{SPLIT_ROWS, MAX_LEAVES}
+use Rattle.graph_model.specs.declared.limits.TheConstants.{SPLIT_ROWS, MAX_LEAVES, MAX_PASSES}
 use Rattle.graph_model.specs.declared.journal.Commit.{Commit}
 use Rattle.graph_model.specs.declared.write.Kind.{Kind}
 use Rattle.graph_model.specs.Inserted.{inserted}
@@ -134,6 +134,11 @@ pub record IsConfig (kind : Kind) (leaves : ℕ) (scripts : List (List Command))
   pub begins : MayBegin scripts config.txns_per_pass
   pub some : 0 < config.txns_per_pass
   pub no_more : (config.txns_per_pass ≡ 1) ⊎ Begins scripts config.txns_per_pass
+
+-- The same with passes by which kernels read, behind those of the load and of the scripts: one for each thread, or as
+-- many as a store may still have
+abbrev pub with_readers : ℕ → Config → Config
+with_readers threads config = record config { passes = config.passes + min threads (MAX_PASSES - config.passes) }
 
 -- the engine of some scripts before its first call
 abbrev pub IsNewEngine : Core → Type 0

@@ -1,7 +1,8 @@
 //! Cells that are unpacked, so that their contents may change, and packed again.
 //!
 //! 1. A packed cell's rows stand in the words of its block alone. To be unpacked it is lent room for them by the pass.
-//! 2. Whoever packs a cell stores the words that differ.
+//! 2. Whoever packs a cell stores the words that differ. Records stand in no word, so contents may change and no word
+//!    with them; then none is looked at.
 
 ghost use Rattle.std.specs.Prelude.{◌≡◌, ◌<◌, ◌+◌, true, false, length};
 ghost use Rattle.loaded_cells.specs.CellsModel.Cells.{CellState, unpacked};
@@ -53,15 +54,20 @@ impl Store {
         }
     }
 
-    /// Packs a cell: its block spells the contents that the pass knows. Where `changed` isn't set these are those with
-    /// which it was unpacked. The room for its rows is the pass's again.
-    pub fn pack(&self, pass: &mut Pass, held: Held<VersionSegment>) -> Held<Resting>
+    /// Packs a cell: its block spells the contents that the pass knows. Where its words haven't changed the block spells
+    /// them already, and is left as it is. The room for its rows is the pass's again.
+    pub fn pack(
+        &self,
+        pass: &mut Pass,
+        held: Held<VersionSegment>,
+        words_changed: bool,
+    ) -> Held<Resting>
         requires table { pass.old.account.table_id ≡ self.now.accounts.table.shared.table_id }
         requires cell { held.cell < cells_of self.now.accounts.config }
         requires unpacked { (c : CellState) × HasCell pass.old.account.me.0 held.cell c × (c.unpacked ≡ true)
             × (length c.block ≡ block_words) × IsSameSegment c.segment held.value }
         requires weights { HasSmallWeights held.value }
-        requires untouched { held.changed ≡ false
+        requires untouched { words_changed ≡ false
             → (c : CellState) → HasCell pass.old.account.me.0 held.cell c → IsUntouched c }
         ensures held { (result.cell ≡ held.cell) × (result.found ≡ held.found)
             × (result.changed ≡ held.changed) }
@@ -82,7 +88,7 @@ impl Store {
         let high = words.high();
         let rows = words.rows();
         self.accounts
-            .pack_words(&mut pass.account, cell, low, high, rows, changed);
+            .pack_words(&mut pass.account, cell, low, high, rows, words_changed);
         pass.buffers.take_back(words);
         Held {
             cell,

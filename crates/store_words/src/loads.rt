@@ -48,8 +48,17 @@ impl Accounts {
         requires cell { cell < cells_of self.now.config }
         requires word { word < block_words }
     {
+        let begin = self.block_begin(cell);
+        self.peek_in(Block { cell, begin }, word)
+    }
+
+    /// The same of a block whose begin was found.
+    pub fn peek_in(&self, block: Block, word: u32) -> u64
+        requires block { IsBlockOf self.now.config block }
+        requires word { word < block_words }
+    {
         // Needs no order: nothing is told of what it finds, so it doesn't matter what else is found with it.
-        self.table.shared.peek(self.block_place(cell, word))
+        self.table.shared.peek(self.place_in(block, word))
     }
 
     /// Loads the number of rows.

@@ -39,8 +39,10 @@ impl Accounts {
         self.respell_word(seat, block, 2, low.second);
         self.respell_word(seat, block, 3, high.src);
         self.respell_word(seat, block, 4, high.second);
-        'rows: for place in 0..rows.len() {
-            self.respell_row(seat, block, place as u32, rows[place]);
+        // Places are counted below 32, so that a word's place is the begin of the block and a number that is known.
+        let count = rows.len().min(32) as u32;
+        'rows: for place in 0..count {
+            self.respell_row(seat, block, place, rows[place as usize]);
         }
     }
 

@@ -1,8 +1,7 @@
 -- What a turn by the calls of an engine does to the account of its pass.
-use Rattle.std.proofs.Common.{◌≡◌, ℕ, zero, suc, List, [], ◌∷◌, ◌++◌, map, refl, sym, ◌∙◌, ap, subst, cond, inl, inr}
-use Rattle.std.specs.Prelude.{◌⊎◌, Bool, true, false, not, ◌&&◌, Option, Some, None, IsSome, unwrap_or, Result, Ok, Err}
+use Rattle.std.proofs.Common.{◌≡◌, ℕ, zero, suc, List, [], map, refl, sym, ◌∙◌, ap, subst, cond}
+use Rattle.std.specs.Prelude.{Bool, true, false, not, Option, Some, None, IsSome, unwrap_or, Result, Ok, Err}
 use Rattle.graph_model.specs.declared.write.Write.{Write}
-use Rattle.graph_model.specs.declared.refusal.BeginRefusal.TheVariants as begin_refusals
 use Rattle.graph_model.specs.declared.refusal.Refusal.{Refusal}
 use Rattle.graph_model.specs.declared.refusal.Refusal.TheVariants as refusals
 use Rattle.items.specs.declared.memory.NoMemory.{NoMemory}
@@ -20,7 +19,7 @@ use Rattle.run_model.specs.declared.command.Query.{Query}
 use Rattle.run_model.specs.declared.command.Kernel.{Kernel}
 use Rattle.run_model.specs.Commands.{IsCommand, next_txn, open_behind}
 use Rattle.run_model.specs.Run.{Filing, filing_of}
-use Rattle.run_model.specs.Jobs.{is_end, skips}
+use Rattle.run_model.specs.Jobs.{is_end}
 use Rattle.run_model.proofs.AnswerLemmas.{query_plain, kernel_plain}
 use Rattle.side_runs.specs.ByAccount.{write_answer, WriteLeaves, LiveLineBy, TableBy}
 use Rattle.job_runner.specs.LineRunnerDeclared.answering.LineAnswer.{LineAnswer}
@@ -28,7 +27,7 @@ use Rattle.job_runner.specs.LineRunnerDeclared.phase.Phase.{Phase}
 use Rattle.job_runner.specs.LineRunnerDeclared.phase.Phase.TheVariants.{Between, Open, Skipping, GivenUp}
 use Rattle.job_runner.specs.LineRunnerDeclared.table.NamedTable.{NamedTable}
 use Rattle.job_runner.specs.LineRunner.Phases.{is_skipping, is_inside, IsPhase, phase_at, plain, file_of, IsFileOn, sees_same}
-use Rattle.job_runner.specs.LineRunner.Turns.{view_now, Calls, ReadsTimes, ReadsOn, FinishesRefusedOn, FinishesOn, AnswersLive, SeesLegal, AreByAccount}
+use Rattle.job_runner.specs.LineRunner.Turns.{view_now, Calls, ReadsTimes, ReadsOn, FinishesRefusedOn, AnswersLive, SeesLegal, AreByAccount}
 use Rattle.job_runner.proofs.LineRunner.CoreLemmas.{some_of}
 use Rattle.job_runner.proofs.LineRunner.AccountLemmas.{reads_none, reads_more, write_stays}
 use Rattle.job_runner.proofs.LineRunner.ViewLemmas.{sees_still}

@@ -1,11 +1,10 @@
 -- A script's turns from its first line on.
-use Rattle.std.proofs.Common.{◌≡◌, ◌≤◌, ℕ, zero, suc, List, [], ◌∷◌, map, refl, sym, ◌∙◌, ap, subst, arith}
-use Rattle.std.specs.Prelude.{Bool, true, false, Option, Some, None}
+use Rattle.std.proofs.Common.{◌≡◌, ◌≤◌, ℕ, zero, suc, List, ◌∷◌, map, refl, sym, ◌∙◌, ap, subst, arith}
+use Rattle.std.specs.Prelude.{false, Option}
 use Rattle.graph_model.specs.Account.{Account}
 use Rattle.graph_model.specs.declared.write.Kind.{Kind}
 use Rattle.graph_model.specs.declared.write.Write.{Write}
 use Rattle.run_model.specs.declared.command.Command.{Command}
-use Rattle.run_model.specs.Inputs.{File}
 use Rattle.run_model.specs.Commands.{begun_by}
 use Rattle.side_runs.specs.ByAccount.{IsUnbegun, HasRunBy}
 use Rattle.job_runner.specs.LineRunnerDeclared.answering.LineTurn.{LineTurn}

@@ -1,6 +1,6 @@
 -- Turns of a job by the account of its pass.
-use Rattle.std.proofs.Common.{◌≡◌, ℕ, zero, suc, ◌+◌, ◌<◌, ◌≤◌, List, [], ◌∷◌, ◌++◌, length, map, take, drop, refl, sym, ◌∙◌, ap, subst, arith, cond, inl, inr, length-append}
-use Rattle.std.specs.Prelude.{Bool, true, false, ◌||◌, ◌&&◌, not, Option, Some, None, IfSome, IsSome, Err}
+use Rattle.std.proofs.Common.{◌≡◌, ℕ, zero, suc, ◌+◌, ◌<◌, ◌≤◌, List, [], ◌∷◌, map, refl, sym, ◌∙◌, ap, subst, arith, cond, inl, inr}
+use Rattle.std.specs.Prelude.{Bool, true, false, ◌||◌, not, Option, Some, None, IfSome, IsSome, Err}
 use Rattle.graph_model.specs.declared.refusal.BeginRefusal.TheVariants as begin_refusals
 use Rattle.graph_model.specs.declared.refusal.Refusal.TheVariants as refusals
 use Rattle.graph_model.specs.Account.{Account}
@@ -11,8 +11,7 @@ use Rattle.run_model.specs.declared.command.Command.{Command}
 use Rattle.run_model.specs.declared.answer.Answer.TheVariants as answers
 use Rattle.run_model.specs.AnsweredLines.{effect}
 use Rattle.run_model.specs.Run.{filing_of}
-use Rattle.run_model.specs.declared.command.Command.TheVariants as commands
-use Rattle.run_model.specs.Commands.{next_txn, begun_by, open_behind, IsScript}
+use Rattle.run_model.specs.Commands.{next_txn, begun_by, IsScript}
 use Rattle.run_model.specs.Jobs.{is_end, skips, is_empty}
 use Rattle.run_model.proofs.AnswerLemmas.{must_begin, within_txn}
 use Rattle.side_runs.specs.ByAccount.{skips_behind, LiveLineBy, TableBy}
@@ -25,14 +24,14 @@ use Rattle.job_runner.specs.LineRunnerDeclared.phase.Phase.TheVariants.{Between,
 use Rattle.job_runner.specs.LineRunnerDeclared.reading.LineReading.{LineReading}
 use Rattle.job_runner.specs.LineRunner.Kernels.{IsKeptImage}
 use Rattle.job_runner.specs.LineRunner.Scanning.{IsReading, taken_of}
-use Rattle.job_runner.specs.LineRunner.Phases.{is_skipping, is_inside, IsPhase, phase_at, phase_behind, plain, file_of, sees_same, image_behind}
-use Rattle.job_runner.specs.LineRunner.Turns.{view_now, MayTakeNow, Calls, AnswersSkipped, AnswersLive, AnswersOn, TakesOn, WantsOn, AreByAccount, SeesLegal}
+use Rattle.job_runner.specs.LineRunner.Phases.{is_skipping, is_inside, IsPhase, phase_at, phase_behind, file_of, sees_same}
+use Rattle.job_runner.specs.LineRunner.Turns.{view_now, MayTakeNow, Calls, AnswersSkipped, AnswersLive, WantsOn, AreByAccount, SeesLegal}
 use Rattle.job_runner.proofs.LineRunner.CoreLemmas.{some_of}
 use Rattle.job_runner.proofs.LineRunner.AccountLemmas.{reads_none, reads_aborts}
 use Rattle.job_runner.proofs.LineRunner.ViewLemmas.{sees_still}
 use Rattle.job_runner.specs.declared.turn.JobTurn.{JobTurn}
 use Rattle.job_runner.specs.declared.turn.JobTurn.TheVariants as turns
-use Rattle.job_runner.specs.Progress.{Progress, left_of, listed_table, has_given_up, is_over, behind, gone, GivesUpOn, IsReadyBy, TakesTurnOn, TookTurnOn}
+use Rattle.job_runner.specs.Progress.{Progress, left_of, listed_table, has_given_up, is_over, behind, GivesUpOn, IsReadyBy, AnswersInParts, TakesInParts, TakesTurnInParts, TookInParts}
 use Rattle.job_runner.specs.Runs.{turns_left}
 use Rattle.job_runner.proofs.JobLemmas.{heads, may_take, has_left}
 use Rattle.job_runner.proofs.SeatLemmas.{left_more}
@@ -46,7 +45,7 @@ module _ {S : Type 0} (e : Calls S) (by : AreByAccount e) (old new : S) (phase :
   legal : SeesLegal (e.account old)
   legal = may.valid.legal
 
-  module _ (given : LineAnswer) (is : AnswersOn e old phase reading r given new) where
+  module _ (given : LineAnswer) (is : AnswersInParts e old phase reading r given new) where
     -- a line that isn't skipped
     live : is_skipping phase ≡ false → Leaves (e.account old) phase r given (e.account new)
     live calm = leaves_live e by old new may.valid phase r given may.phase_is may.stands.0 may.stands.1 may.within calm
@@ -84,8 +83,8 @@ module _ {S : Type 0} (e : Calls S) (by : AreByAccount e) (old new : S) (phase :
               ∙ sym (ap (λ p. phase_left (skips_behind (is_skipping p) r given.answer) (e.account new)) same ∙ ap (λ s. cond (not (is_end r)) Skipping (phase_at s)) (ap (λ s. (e.account s).start) skipped.1 ∙ closed));
         }
 
-  pub takes_by : (turn : LineTurn) → TakesOn e old phase reading r turn new → TakesBy (e.account old) phase reading r turn (e.account new)
-  takes_by (Scanning next) is = (is.0, (reads_read e by old new legal is.1).0)
+  pub takes_by : (turn : LineTurn) → TakesInParts e old phase reading r turn new → TakesBy (e.account old) phase reading r turn (e.account new)
+  takes_by (Scanning next) is = (is.0, (reads_read e by old new legal is.1).0, is.2)
   takes_by (Answering given) is = by_phase phase refl
     where
       by_phase : (p : Phase) → phase ≡ p → AnswersBy (e.account old) phase reading r given (e.account new)
@@ -111,7 +110,7 @@ module _ {S : Type 0} (e : Calls S) (by : AreByAccount e) (old : S) (job : Progr
   gives_up_by Skipping mid new read is = subst (λ s. ReadsBy (e.account old) (e.account s)) (sym is) read
   gives_up_by GivenUp mid new read is = subst (λ s. ReadsBy (e.account old) (e.account s)) (sym is) read
 
-  takes_turn : (c : Command) (rest : List Command) → left_of job ≡ c ∷ rest → (next : Progress) (new : S) → TakesTurnOn e old job c next new → TakesTurnBy (e.account old) job c next (e.account new)
+  takes_turn : (c : Command) (rest : List Command) → left_of job ≡ c ∷ rest → (next : Progress) (new : S) → TakesTurnInParts e old job c next new → TakesTurnBy (e.account old) job c next (e.account new)
   takes_turn c rest left next new is = record {
     turn = is.turn;
     takes = takes_by e by old new job.phase job.reading c (may_take (e.account old) job ready c rest left) is.turn is.takes;
@@ -121,7 +120,7 @@ module _ {S : Type 0} (e : Calls S) (by : AreByAccount e) (old : S) (job : Progr
   }
 
   -- a turn by the calls is one by the account
-  pub took_by : (turn : JobTurn) (next : Progress) (new : S) → TookTurnOn e old job turn next new → TookTurnBy (e.account old) job turn next (e.account new)
+  pub took_by : (turn : JobTurn) (next : Progress) (new : S) → TookInParts e old job turn next new → TookTurnBy (e.account old) job turn next (e.account new)
   took_by turns.More next new is = (is.0, λ c rest left. takes_turn c rest left next new (is.1 c rest left))
   took_by turns.Ended next new is = (is.0, λ c rest left. takes_turn c rest left next new (is.1 c rest left))
   took_by turns.NoMemory next new is =
@@ -145,7 +144,7 @@ module _ {S : Type 0} (e : Calls S) (by : AreByAccount e) (old : S) (job : Progr
   room = subst (λ cs. begun_by (e.account old).begun cs ≤ (e.account old).allowed) left ready.room
 
   -- the line took a portion of what it reads
-  scans_ready : (next : LineReading) (image : Option KeptImage) → IfSome image (IsKeptImage (view_now (e.account old))) → TakesOn e old job.phase job.reading c (Scanning next) new → IsReadyBy (e.account new) (behind job image (Scanning next))
+  scans_ready : (next : LineReading) (image : Option KeptImage) → IfSome image (IsKeptImage (view_now (e.account old))) → TakesInParts e old job.phase job.reading c (Scanning next) new → IsReadyBy (e.account new) (behind job image (Scanning next))
   scans_ready next image kept is =
       let read = reads_read e by old new ready.valid.legal is.1 in
       let opened : IsSome (e.account old).start = subst (λ p. IsPhase p (e.account old).start) is.0.is_open ready.phase_is in
@@ -224,7 +223,7 @@ module _ {S : Type 0} (e : Calls S) (by : AreByAccount e) (old : S) (job : Progr
         skipped_inside true = refl
         skipped_inside false = refl
 
-    answers_ready : AnswersOn e old job.phase job.reading c given new → IsReadyBy (e.account new) answered
+    answers_ready : AnswersInParts e old job.phase job.reading c given new → IsReadyBy (e.account new) answered
     answers_ready is = by_phase job.phase refl
       where
         calm_ready : is_skipping job.phase ≡ false → IsReadyBy (e.account new) answered
@@ -236,7 +235,7 @@ module _ {S : Type 0} (e : Calls S) (by : AreByAccount e) (old : S) (job : Progr
         by_phase Open same = calm_ready (ap is_skipping same)
         by_phase GivenUp same = calm_ready (ap is_skipping same)
 
-  turn_ready : (turn : LineTurn) (image : Option KeptImage) → IfSome image (IsKeptImage (view_now (e.account old))) → TakesOn e old job.phase job.reading c turn new → IsReadyBy (e.account new) (behind job image turn)
+  turn_ready : (turn : LineTurn) (image : Option KeptImage) → IfSome image (IsKeptImage (view_now (e.account old))) → TakesInParts e old job.phase job.reading c turn new → IsReadyBy (e.account new) (behind job image turn)
   turn_ready (Scanning next) image kept is = scans_ready next image kept is
   turn_ready (Answering given) image kept is = answers_ready given image kept is
 
@@ -258,23 +257,23 @@ module _ {S : Type 0} (e : Calls S) (by : AreByAccount e) (old : S) (job : Progr
   hand : (c : Command) × (rest : List Command) × (left_of job ≡ c ∷ rest)
   hand = line_of (left_of job) (has_left job.phase (left_of job) going)
 
-  took_ready : ((c : Command) (rest : List Command) → left_of job ≡ c ∷ rest → TakesTurnOn e old job c next new) → IsReadyBy (e.account new) next
+  took_ready : ((c : Command) (rest : List Command) → left_of job ≡ c ∷ rest → TakesTurnInParts e old job c next new) → IsReadyBy (e.account new) next
   unfolding hand
   took_ready takes =
       let t = takes hand.0 hand.1 hand.2 in
       subst (IsReadyBy (e.account new)) (sym t.job_is) (turn_ready e by old job ready hand.0 hand.1 hand.2 new t.turn t.image t.kept t.takes)
 
-  pub stays_ready : (turn : JobTurn) → TookTurnOn e old job turn next new → is_over next ≡ false → IsReadyBy (e.account new) next
+  pub stays_ready : (turn : JobTurn) → TookInParts e old job turn next new → is_over next ≡ false → IsReadyBy (e.account new) next
   stays_ready turns.More took on = took_ready took.1
   stays_ready turns.Ended took on = absurd (let no : true ≡ false = sym took.0 ∙ on in cc)
   stays_ready turns.NoMemory took on = absurd (let no : true ≡ false = sym (ap is_over took.3) ∙ on in cc)
 
-  number_kept : ((c : Command) (rest : List Command) → left_of job ≡ c ∷ rest → TakesTurnOn e old job c next new) → next.number ≡ job.number
+  number_kept : ((c : Command) (rest : List Command) → left_of job ≡ c ∷ rest → TakesTurnInParts e old job c next new) → next.number ≡ job.number
   unfolding hand
   number_kept takes = let t = takes hand.0 hand.1 hand.2 in ap (λ (x : Progress). x.number) t.job_is ∙ behind_number job t.image t.turn
 
   -- the engine stays of its pass
-  pub turn_pass : (turn : JobTurn) → TookTurnOn e old job turn next new → (e.account new).job ≡ (e.account old).job
+  pub turn_pass : (turn : JobTurn) → TookInParts e old job turn next new → (e.account new).job ≡ (e.account old).job
   turn_pass turns.More took = (took_ready took.1).number ∙ number_kept took.1 ∙ sym ready.number
   turn_pass turns.Ended took = (took_ready took.1).number ∙ number_kept took.1 ∙ sym ready.number
   turn_pass turns.NoMemory took = gave_pass job.phase (gives_up_by e by old job ready job.phase took.0 new (wants_read e by old took.0 ready.valid.legal took.1) took.2)
@@ -286,7 +285,7 @@ module _ {S : Type 0} (e : Calls S) (by : AreByAccount e) (old : S) (job : Progr
       gave_pass GivenUp is = ap (λ (a : Account). a.job) is.others
 
   -- whoever is over behind a turn has no transaction open
-  pub turn_closed : (turn : JobTurn) → TookTurnOn e old job turn next new → is_over next ≡ true → (e.account new).start ≡ None
+  pub turn_closed : (turn : JobTurn) → TookInParts e old job turn next new → is_over next ≡ true → (e.account new).start ≡ None
   turn_closed turns.More took over = absurd (let no : true ≡ false = sym over ∙ took.0 in cc)
   turn_closed turns.Ended took over = ready_closed next.phase refl (took_ready took.1)
     where
@@ -306,25 +305,25 @@ module _ {S : Type 0} (e : Calls S) (by : AreByAccount e) (old : S) (job : Progr
       gave_closed GivenUp is by_it = absurd is
 
   -- fewer turns are left
-  took_fewer : ((c : Command) (rest : List Command) → left_of job ≡ c ∷ rest → TakesTurnOn e old job c next new) → turns_left next < turns_left job
+  took_fewer : ((c : Command) (rest : List Command) → left_of job ≡ c ∷ rest → TakesTurnInParts e old job c next new) → turns_left next < turns_left job
   unfolding hand
   took_fewer takes =
       let t = takes hand.0 hand.1 hand.2 in
       subst (λ x. turns_left x < turns_left job) (sym t.job_is) (turn_less job hand.0 hand.1 hand.2 ready.small t.turn (further hand.0 t.turn t.takes) t.image)
     where
-      further : (r : Command) (turn : LineTurn) → TakesOn e old job.phase job.reading r turn new → (reading : LineReading) → turn ≡ Scanning reading
+      further : (r : Command) (turn : LineTurn) → TakesInParts e old job.phase job.reading r turn new → (reading : LineReading) → turn ≡ Scanning reading
           → (taken_of (Some reading) ≡ taken_of job.reading + 1) × (taken_of (Some reading) < 288230376151711744)
       further r turn takes reading same =
-          let scans = subst (λ t. TakesOn e old job.phase job.reading r t new) same takes in (scans.0.taken, scans.0.small)
+          let scans = subst (λ t. TakesInParts e old job.phase job.reading r t new) same takes in (scans.0.taken, scans.0.small)
 
-  pub left_fewer : (turn : JobTurn) → TookTurnOn e old job turn next new → left_over next < left_over job
+  pub left_fewer : (turn : JobTurn) → TookInParts e old job turn next new → left_over next < left_over job
   left_fewer turn took = subst (λ x. left_over next < cond x 0 (turns_left job + 1)) (sym going) (by_turn turn took)
     where
       at_most : (over : Bool) (m n : ℕ) → m < n → cond over 0 (m + 1) < n + 1
       at_most true m n lt = omega arith
       at_most false m n lt = omega (arith, lt)
 
-      by_turn : (turn : JobTurn) → TookTurnOn e old job turn next new → left_over next < turns_left job + 1
+      by_turn : (turn : JobTurn) → TookInParts e old job turn next new → left_over next < turns_left job + 1
       by_turn turns.More took = at_most (is_over next) (turns_left next) (turns_left job) (took_fewer took.1)
       by_turn turns.Ended took = at_most (is_over next) (turns_left next) (turns_left job) (took_fewer took.1)
       by_turn turns.NoMemory took = subst (λ x. left_over x < turns_left job + 1) (sym took.3) (omega arith)

@@ -1,5 +1,5 @@
 -- A job's turns by the account of its pass, and what all of them leave.
-use Rattle.std.specs.Prelude.{◌≡◌, ℕ, zero, suc, ◌≤◌, Bool, true, false, cond, List, [], ◌∷◌, length, map, take, Option, Some, None, IfSome}
+use Rattle.std.specs.Prelude.{◌≡◌, ℕ, zero, suc, ◌≤◌, Bool, true, false, cond, List, [], ◌∷◌, length, map, take, Option, Some, IfSome}
 use Rattle.graph_model.specs.declared.write.Kind.{Kind}
 use Rattle.graph_model.specs.declared.write.Write.{Write}
 use Rattle.graph_model.specs.Account.{Account, IsValid}
@@ -17,10 +17,10 @@ use Rattle.job_runner.specs.LineRunnerDeclared.reading.LineReading.{LineReading}
 use Rattle.job_runner.specs.LineRunner.Kernels.{IsKeptImage}
 use Rattle.job_runner.specs.LineRunner.Scanning.{taken_of}
 use Rattle.job_runner.specs.LineRunner.Phases.{is_skipping, phase_at, file_of}
-use Rattle.job_runner.specs.LineRunner.Turns.{view_now, goes_on_at, ReadsFurther}
+use Rattle.job_runner.specs.LineRunner.Turns.{view_now, ReadsFurther}
 use Rattle.job_runner.specs.declared.turn.JobTurn.{JobTurn}
 use Rattle.job_runner.specs.declared.turn.JobTurn.TheVariants as turns
-use Rattle.job_runner.specs.Progress.{Progress, new_progress, left_of, listed_table, has_given_up, is_over, behind, gone, IsReadyBy}
+use Rattle.job_runner.specs.Progress.{Progress, new_progress, left_of, listed_table, has_given_up, is_over, behind, gone, runs_kernel, goes_on_in_parts, IsReadyBy}
 
 -- ---- one turn
 
@@ -31,13 +31,15 @@ phase_left skips account = cond skips Skipping (phase_at account.start)
 -- the last turn of a line answers it
 pub record AnswersBy (old : Account) (phase : Phase) (reading : Option LineReading) (r : Command) (given : LineAnswer)
     (new : Account) : Type 0 where
-  pub last : goes_on_at (view_now old) (is_skipping phase) (taken_of reading) r ≡ false
+  pub last : goes_on_in_parts (view_now old) (is_skipping phase) (taken_of reading) r ≡ false
   pub does : LineBy (is_skipping phase) old r given.answer (map file_of (listed_table given.table)) [] new
   pub phase_is : given.phase ≡ phase_left (skips_behind (is_skipping phase) r given.answer) new
 
--- one turn of a line. Where turns are left more of the journal may have been seen, and nothing else has changed
+-- one turn of a line: that of a kernel takes no other. Where turns are left more of the journal may have been seen, and
+-- nothing else has changed
 abbrev pub TakesBy : Account → Phase → Option LineReading → Command → LineTurn → Account → Type 0
-TakesBy old phase reading r (Scanning next) new = ReadsFurther (view_now old) phase reading r next × ReadsBy old new
+TakesBy old phase reading r (Scanning next) new =
+    ReadsFurther (view_now old) phase reading r next × ReadsBy old new × (runs_kernel r ≡ false)
 TakesBy old phase reading r (Answering given) new = AnswersBy old phase reading r given new
 
 -- the line at hand takes a turn

@@ -4,6 +4,7 @@
 //!    its block, one job after the other.
 //! 2. The service takes its turns beside them.
 //! 3. Where a job wants memory, it is taken back, and the others go on.
+//! 4. The rows of a kernel are read by as many readers as there are workers.
 
 ghost use Rattle.std.specs.Prelude.{◌≡◌, ◌<◌, ◌≤◌, ◌+◌, ◌-◌, ◌^◌, ◌||◌, min, length, true, false, None, OnOk, OnErr};
 ghost use Rattle.std.specs.List.{AllZip, AllByRecursion};
@@ -17,10 +18,11 @@ use crate::over::JobsOver;
 use desk_io::Gate;
 use graph_model::{Engine, NoMemory, VertexEngine};
 use job_runner::Job;
+use part_scan::PartScan;
 use std::thread::{Threads, join_mut};
 
 /// Runs all jobs to their end on so many workers, and the service beside them.
-pub fn run_threads<R: Threads + Sync, E: VertexEngine + Send, G: Gate>(
+pub fn run_threads<R: Threads + Sync, E: VertexEngine + PartScan + Send, G: Gate>(
     rt: &R,
     jobs: &mut JobsOver<E>,
     workers: u32,
@@ -60,7 +62,7 @@ fn count_lines<E>(seats: &[(Job, E)]) -> u64
 }
 
 /// The service in a thread of its own, and the jobs.
-fn run_beside<R: Threads + Sync, E: VertexEngine + Send, G: Gate>(
+fn run_beside<R: Threads + Sync, E: VertexEngine + PartScan + Send, G: Gate>(
     rt: &R,
     service: &mut E,
     turns: u64,
@@ -68,7 +70,7 @@ fn run_beside<R: Threads + Sync, E: VertexEngine + Send, G: Gate>(
     workers: u32,
     gate: &G,
 ) -> bool
-    requires workers { 0 < workers }
+    requires workers { (0 < workers) × (workers ≤ 32) }
     requires ready { AllByRecursion (IsSeat E.account) seats.old }
     ensures ran { AllZip (HasRun E.account) seats.old seats.new }
     ensures wanted { result ≡ some_gave_up seats.old seats.new }
@@ -85,11 +87,11 @@ fn run_beside<R: Threads + Sync, E: VertexEngine + Send, G: Gate>(
                 × ReadsBy (E.account service.entry.now) (E.account service.exit.now) }
         { serve(rt, service, turns) },
         &mut || -> bool
-            requires { IsSync R.row × IsSend E.row × IsSync G.row × (0 < workers)
+            requires { IsSync R.row × IsSend E.row × IsSync G.row × (0 < workers) × (workers ≤ 32)
                 × AllByRecursion (IsSeat E.account) seats.now }
             ensures { AllZip (HasRun E.account) seats.entry.now seats.exit.now
                 × (result ≡ some_gave_up seats.entry.now seats.exit.now) }
-        { run_blocks(rt, seats, workers, gate) },
+        { run_blocks(rt, seats, workers, workers, gate) },
     );
     wanted
 }
@@ -108,38 +110,42 @@ fn serve<R: Threads, E: Engine>(_rt: &R, engine: &mut E, turns: u64)
 
 /// Cuts the jobs into blocks, and runs these side by side.
 #[cycle(blocks)]
-fn run_blocks<R: Threads + Sync, E: VertexEngine + Send, G: Gate>(
+fn run_blocks<R: Threads + Sync, E: VertexEngine + PartScan + Send, G: Gate>(
     rt: &R,
     seats: &mut [(Job, E)],
     workers: u32,
+    readers: u32,
     gate: &G,
 ) -> bool
     requires workers { 0 < workers }
+    requires readers { (0 < readers) × (readers ≤ 32) }
     requires ready { AllByRecursion (IsSeat E.account) seats.old }
     ensures ran { AllZip (HasRun E.account) seats.old seats.new }
     ensures wanted { result ≡ some_gave_up seats.old seats.new }
 {
     // Cut by workers and not by jobs: a block may be empty, and is one thread all the same.
     if workers == 1 {
-        return run_block(rt, seats, gate);
+        return run_block(rt, seats, readers, gate);
     }
     let first = workers / 2;
     let (front, back) = seats.split_at_mut(jobs_in_first(seats.len(), workers, first));
-    both_parts(rt, front, first, back, workers - first, gate)
+    both_parts(rt, front, first, back, workers - first, readers, gate)
 }
 
 /// Runs the first blocks and the others side by side.
 #[cycle(blocks)]
-fn both_parts<R: Threads + Sync, E: VertexEngine + Send, G: Gate>(
+fn both_parts<R: Threads + Sync, E: VertexEngine + PartScan + Send, G: Gate>(
     rt: &R,
     front: &mut [(Job, E)],
     first: u32,
     back: &mut [(Job, E)],
     others: u32,
+    readers: u32,
     gate: &G,
 ) -> bool
     requires first { 0 < first }
     requires others { 0 < others }
+    requires readers { (0 < readers) × (readers ≤ 32) }
     requires cut { length front.old ≡ in_first (length front.old + length back.old) (first + others) first }
     requires front { AllByRecursion (IsSeat E.account) front.old }
     requires back { AllByRecursion (IsSeat E.account) back.old }
@@ -147,18 +153,21 @@ fn both_parts<R: Threads + Sync, E: VertexEngine + Send, G: Gate>(
     ensures back { AllZip (HasRun E.account) back.old back.new }
     ensures wanted { result ≡ (some_gave_up front.old front.new || some_gave_up back.old back.new) }
 {
+    // Each closure borrows what it names, so each has a number of its own.
+    let front_readers = readers;
+    let back_readers = readers;
     let mut left = || -> bool
         requires { IsSync R.row × IsSend E.row × IsSync G.row × (0 < first)
-            × AllByRecursion (IsSeat E.account) front.now }
+            × (0 < front_readers) × (front_readers ≤ 32) × AllByRecursion (IsSeat E.account) front.now }
         ensures { AllZip (HasRun E.account) front.entry.now front.exit.now
             × (result ≡ some_gave_up front.entry.now front.exit.now) }
-    { run_blocks(rt, front, first, gate) };
+    { run_blocks(rt, front, first, front_readers, gate) };
     let mut right = || -> bool
         requires { IsSync R.row × IsSend E.row × IsSync G.row × (0 < others)
-            × AllByRecursion (IsSeat E.account) back.now }
+            × (0 < back_readers) × (back_readers ≤ 32) × AllByRecursion (IsSeat E.account) back.now }
         ensures { AllZip (HasRun E.account) back.entry.now back.exit.now
             × (result ≡ some_gave_up back.entry.now back.exit.now) }
-    { run_blocks(rt, back, others, gate) };
+    { run_blocks(rt, back, others, back_readers, gate) };
     // Both, also where the first ran out of memory: each job ends by itself, and takes its transaction back.
     let (a, b) = join_mut(rt, &mut left, &mut right);
     a || b
@@ -176,18 +185,20 @@ fn jobs_in_first(jobs: usize, workers: u32, first: u32) -> usize
 }
 
 /// Runs a block of jobs, one after the other. Answers whether memory ran out.
-fn run_block<R: Threads + Sync, E: VertexEngine, G: Gate>(
+fn run_block<R: Threads + Sync, E: VertexEngine + PartScan, G: Gate>(
     rt: &R,
     seats: &mut [(Job, E)],
+    readers: u32,
     gate: &G,
 ) -> bool
+    requires readers { (0 < readers) × (readers ≤ 32) }
     requires ready { AllByRecursion (IsSeat E.account) seats.old }
     ensures ran { AllZip (HasRun E.account) seats.old seats.new }
     ensures wanted { result ≡ some_gave_up seats.old seats.new }
 {
     let mut wanted = false;
     'seats: for seat in seats.iter_mut() {
-        if run_seat(rt, seat, gate) {
+        if run_seat(rt, seat, readers, gate) {
             wanted = true;
         }
     }
@@ -195,25 +206,29 @@ fn run_block<R: Threads + Sync, E: VertexEngine, G: Gate>(
 }
 
 /// Runs a job on its engine. Answers whether memory ran out.
-fn run_seat<R: Threads + Sync, E: VertexEngine, G: Gate>(
+fn run_seat<R: Threads + Sync, E: VertexEngine + PartScan, G: Gate>(
     rt: &R,
     seat: &mut (Job, E),
+    readers: u32,
     gate: &G,
 ) -> bool
+    requires readers { (0 < readers) × (readers ≤ 32) }
     requires ready { IsSeat E.account seat.old }
     ensures ran { HasRun E.account seat.old seat.new }
     ensures wanted { result ≡ gave_up seat.old.0 seat.new.0 }
 {
-    run_job(rt, &mut seat.0, &mut seat.1, gate)
+    run_job(rt, &mut seat.0, &mut seat.1, readers, gate)
 }
 
 /// Takes turns of a job until it has ended. Answers whether memory ran out.
-fn run_job<R: Threads + Sync, E: VertexEngine, G: Gate>(
+fn run_job<R: Threads + Sync, E: VertexEngine + PartScan, G: Gate>(
     rt: &R,
     job: &mut Job,
     engine: &mut E,
+    readers: u32,
     gate: &G,
 ) -> bool
+    requires readers { (0 < readers) × (readers ≤ 32) }
     requires ready { is_over job.old ≡ false → IsReadyBy (E.account engine.old) job.old }
     ensures ran { RanBy (E.account engine.old) job.old job.new (E.account engine.new) }
     ensures over { is_over job.new ≡ true }
@@ -229,7 +244,7 @@ fn run_job<R: Threads + Sync, E: VertexEngine, G: Gate>(
         gate.turn(job.number(), turn);
         // A gate is told a number and nothing rests on it, so the last one may stay.
         turn = turn.saturating_add(1);
-        let _ = job.turn(rt, engine);
+        let _ = job.turn_parts(rt, engine, readers);
     }
     !before && job.has_given_up()
 }

@@ -21,12 +21,11 @@ use Rattle.rebalance_service.specs.StoreRelation.Passes.{account_of as state_acc
 use Rattle.rebalance_service.specs.StoreRuleDeclared.store.Store.{Store}
 use Rattle.rebalance_service.specs.PassSteps.Passes.{state_of}
 use Rattle.rebalance_service.specs.SharedStoreDeclared.pass.Pass.{Pass}
-use Rattle.rebalance_service.specs.SharedStore.Ends.{AreIdle}
 use Rattle.rebalance_service.specs.SharedStore.Passes.{IsIdle, account_of}
 use Rattle.rebalance_service.specs.Ready.{IsReady}
 use Rattle.rebalance_service.proofs.ReadyLemmas.{idle_here}
 use Rattle.threaded_run.specs.Running.{CanRun}
-use Rattle.threaded_run.specs.Seats.{AreSeated, IsSeated}
+use Rattle.threaded_run.specs.Seats.{AreIdleFrom, AreSeated, IsSeated}
 use Rattle.threaded_run.specs.Ended.{HasEnded, HaveEnded}
 use Rattle.threaded_run.proofs.FreshLemmas.{AreUnused, IsUnused, unbegun_met}
 
@@ -138,17 +137,11 @@ module _ (inputs : Inputs) (store : Store) where
   ended_count number (script ∷ scripts) [] ended = absurd ended
   ended_count number (script ∷ scripts) (y ∷ ys) ended = ap suc (ended_count (number + 1) scripts ys ended.1)
 
-  idle_at : (number : ℕ) (scripts : List (List Command)) (ys : List (Progress × Pass)) → HaveEnded inputs store number scripts ys
-      → (k : ℕ) (pass : Pass) → slice_get (map (λ y. y.1) ys) k ≡ Some pass → IsIdle store pass × (pass.seats.number ≡ number + k)
-  idle_at number [] [] ended k pass at = cc
-  idle_at number [] (y ∷ ys) ended k pass at = absurd ended
-  idle_at number (script ∷ scripts) [] ended k pass at = absurd ended
-  idle_at number (script ∷ scripts) (y ∷ ys) ended zero pass at =
-      let same : y.1 ≡ pass = some_eq y.1 pass at in
-      (subst (IsIdle store) same ended.0.idle, ap (λ (p : Pass). p.seats.number) (sym same) ∙ ended.0.number_is ∙ omega arith)
-  idle_at number (script ∷ scripts) (y ∷ ys) ended (suc k) pass at =
-      let rest = idle_at (number + 1) scripts ys ended.1 k pass at in
-      (rest.0, rest.1 ∙ omega arith)
+  ended_idle : (number : ℕ) (scripts : List (List Command)) (ys : List (Progress × Pass)) → HaveEnded inputs store number scripts ys → AreIdleFrom store number (map (λ y. y.1) ys)
+  ended_idle number [] [] ended = tt
+  ended_idle number [] (y ∷ ys) ended = absurd ended
+  ended_idle number (script ∷ scripts) [] ended = absurd ended
+  ended_idle number (script ∷ scripts) (y ∷ ys) ended = (ended.0.idle, ended.0.number_is, ended_idle (number + 1) scripts ys ended.1)
 
   ran_at : (number : ℕ) (scripts : List (List Command)) (ys : List (Progress × Pass)) → HaveEnded inputs store number scripts ys
       → AllByRecursion (λ y. has_given_up y.0.phase ≡ false) ys
@@ -180,20 +173,14 @@ module _ (inputs : Inputs) (store : Store) where
   module _ (can : CanRun inputs store.accounts.config) (service : Pass) (first : IsIdle store service) (zero_is : service.seats.number ≡ 0)
       (ys : List (Progress × Pass)) (ended : HaveEnded inputs store 1 inputs.scripts ys) where
     -- ALL PASSES ARE BACK
-    pub all_idle : AreIdle store (service ∷ map (λ y. y.1) ys)
-    all_idle = record {
-      count = (let n : length (map (λ (y : Progress × Pass). y.1) ys) ≡ length ys = length-map ys (λ (y : Progress × Pass). y.1) in let m = ended_count 1 inputs.scripts ys ended in let z = can.passes in omega (arith, n, m, z));
-      idle = at_idle;
-      numbers = at_number;
-    }
-      where
-        at_idle : (p : ℕ) (pass : Pass) → slice_get (service ∷ map (λ (y : Progress × Pass). y.1) ys) p ≡ Some pass → IsIdle store pass
-        at_idle zero pass at = subst (IsIdle store) (some_eq service pass at) first
-        at_idle (suc p) pass at = (idle_at 1 inputs.scripts ys ended p pass at).0
+    pub all_idle : AreIdleFrom store 0 (service ∷ map (λ y. y.1) ys)
+    all_idle = (first, zero_is, ended_idle 1 inputs.scripts ys ended)
 
-        at_number : (p : ℕ) (pass : Pass) → slice_get (service ∷ map (λ (y : Progress × Pass). y.1) ys) p ≡ Some pass → pass.seats.number ≡ p
-        at_number zero pass at = ap (λ (x : Pass). x.seats.number) (sym (some_eq service pass at)) ∙ zero_is
-        at_number (suc p) pass at = (idle_at 1 inputs.scripts ys ended p pass at).1 ∙ omega arith
+    pub all_count : length (service ∷ map (λ (y : Progress × Pass). y.1) ys) ≡ length inputs.scripts + 1
+    all_count =
+        let n : length (map (λ (y : Progress × Pass). y.1) ys) ≡ length ys = length-map ys (λ (y : Progress × Pass). y.1) in
+        let m = ended_count 1 inputs.scripts ys ended in
+        omega (arith, n, m)
 
     -- AND HAVE RUN THEIR SCRIPTS
     pub have_run_on : HasLoaded inputs.load (account_of store service) → AllByRecursion (λ y. has_given_up y.0.phase ≡ false) ys

@@ -52,7 +52,7 @@ abbrev pub AreUnused : Store → ℕ → List Pass → Type 0
 AreUnused store number [] = Unit {0}
 AreUnused store number (pass ∷ passes) = IsUnused store number pass × AreUnused store (number + 1) passes
 
-fresh_behind : (load : List Write) (p : ℕ) → first_state load (suc p) ≡ fresh_pass
+pub fresh_behind : (load : List Write) (p : ℕ) → first_state load (suc p) ≡ fresh_pass
 fresh_behind [] p = refl
 fresh_behind (w ∷ ws) p =
     let apart : (suc p == 0) ≡ false = grind (arith, nat_tests) in
@@ -61,13 +61,17 @@ fresh_behind (w ∷ ws) p =
       seen = cond (apart i) (load_commit (w ∷ ws) ∷ []) [];
     }
 
-unused_from : (store : Store) (number : ℕ) (passes : List Pass)
+pub unused_from : (store : Store) (number : ℕ) (passes : List Pass)
     → ((k : ℕ) (pass : Pass) → slice_get passes k ≡ Some pass → IsUnused store (number + k) pass) → AreUnused store number passes
 unused_from store number [] each = tt
 unused_from store number (pass ∷ passes) each = (
   subst (λ n. IsUnused store n pass) (omega arith) (each 0 pass refl),
   unused_from store (number + 1) passes (λ k other at. subst (λ n. IsUnused store n other) (omega arith) (each (suc k) other at)),
 )
+
+pub unused_front : (store : Store) (number : ℕ) (xs ys : List Pass) → AreUnused store number (xs ++ ys) → AreUnused store number xs
+unused_front store number [] ys unused = tt
+unused_front store number (x ∷ xs) ys unused = (unused.0, unused_front store (number + 1) xs ys unused.1)
 
 module _ (store : Store) (load : List Write) (loader : Pass) (passes : List Pass) (are : AreLoaded load store (loader ∷ passes)) where
   pub loader_idle : IsIdle store loader

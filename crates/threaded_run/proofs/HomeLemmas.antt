@@ -1,5 +1,5 @@
 -- What the run on a store asks of its parts, from what it is given.
-use Rattle.std.proofs.Common.{◌≡◌, ℕ, zero, suc, ◌+◌, ◌<◌, ◌≤◌, List, [], ◌∷◌, length, map, refl, sym, ◌∙◌, ap, subst, arith}
+use Rattle.std.proofs.Common.{◌≡◌, ℕ, zero, suc, ◌+◌, ◌<◌, ◌≤◌, List, [], ◌∷◌, ◌++◌, length, map, refl, sym, ◌∙◌, ap, subst, arith}
 use Rattle.std.proofs.lemmas.List.{length-map}
 use Rattle.std.specs.Prelude.{false, Some, None, slice_get}
 use Rattle.std.specs.List.{AllByRecursion, AllZip}
@@ -14,17 +14,17 @@ use Rattle.thread_runner.specs.Driving.{HasRun, IsSeat, some_gave_up}
 use Rattle.shared_runs.specs.Closing.{HaveRunOn}
 use Rattle.rebalance_service.specs.StoreRuleDeclared.store.Store.{Store}
 use Rattle.rebalance_service.specs.SharedStoreDeclared.pass.Pass.{Pass}
-use Rattle.rebalance_service.specs.SharedStore.Ends.{AreIdle}
 use Rattle.rebalance_service.specs.SharedStore.Loading.{AreLoaded}
 use Rattle.rebalance_service.specs.SharedStore.Passes.{IsIdle, account_of}
 use Rattle.rebalance_service.specs.Ready.{IsReady}
 use Rattle.rebalance_service.proofs.ReadyLemmas.{idle_here, start_none}
 use Rattle.threaded_run.specs.Running.{CanRun}
-use Rattle.threaded_run.specs.Seats.{AreSeated, CanRunOn}
+use Rattle.threaded_run.specs.Seats.{AreIdleFrom, AreSeated, CanRunBefore, CanRunOn}
 use Rattle.threaded_run.specs.Ended.{HaveEnded}
-use Rattle.threaded_run.proofs.FreshLemmas.{AreUnused, loader_idle, loader_number, loader_loaded, others_unused, loaded_on}
+use Rattle.threaded_run.proofs.FreshLemmas.{AreUnused, loader_idle, loader_number, loader_loaded, others_unused, unused_front, loaded_on}
+use Rattle.threaded_run.proofs.PlaceLemmas.{in_front}
 use Rattle.threaded_run.proofs.SeatLemmas.{AreFit, are_fit, seats_ready}
-use Rattle.threaded_run.proofs.EndLemmas.{bare, AreHome, run_bare, gave_bare, have_ended, none_given, all_idle, have_run_on}
+use Rattle.threaded_run.proofs.EndLemmas.{bare, AreHome, run_bare, gave_bare, have_ended, none_given, all_idle, all_count, have_run_on}
 
 -- ---- how many there are
 
@@ -50,28 +50,47 @@ served_as a b c d reads first last = subst (λ (u : Account × Account). ReadsBy
 
 -- ---- before the scripts run
 
-pub some_passes : (inputs : Inputs) (store : Store) (list : List Pass) (scripts : List (List Command)) → CanRunOn inputs store list scripts → 0 < length list
-some_passes inputs store list scripts can = let count = can.loaded.idle.count in let passes = can.can.passes in omega (arith, count, passes)
+idle_from : (store : Store) (number : ℕ) (passes : List Pass) → ((k : ℕ) (pass : Pass) → slice_get passes k ≡ Some pass → IsIdle store pass × (pass.seats.number ≡ number + k)) → AreIdleFrom store number passes
+idle_from store number [] each = tt
+idle_from store number (pass ∷ passes) each =
+    let one = each 0 pass refl in (
+      one.0,
+      one.1 ∙ omega arith,
+      idle_from store (number + 1) passes (λ k other at. (let next = each (suc k) other at in (next.0, next.1 ∙ omega arith))),
+    )
 
-module _ (inputs : Inputs) (store : Store) (list : List Pass) (scripts : List (List Command)) (can : CanRunOn inputs store list scripts) (loader : Pass) (rest : List Pass) (split : list ≡ loader ∷ rest) where
-  are_loaded : AreLoaded inputs.load store (loader ∷ rest)
-  are_loaded = subst (AreLoaded inputs.load store) split can.loaded
+-- where no seat was made all passes are as they came
+pub idle_still : (inputs : Inputs) (store : Store) (list others : List Pass) (scripts : List (List Command)) → CanRunBefore inputs store list others scripts → AreIdleFrom store 0 list
+idle_still inputs store list others scripts before =
+    idle_from store 0 list (λ k pass at.
+    (let all = before.can.loaded.idle in
+    let there = in_front list others k pass at in
+    (all.idle k pass there, all.numbers k pass there ∙ omega arith)))
+
+pub some_passes : (inputs : Inputs) (store : Store) (list others : List Pass) (scripts : List (List Command)) → CanRunBefore inputs store list others scripts → 0 < length list
+some_passes inputs store list others scripts can = let count = can.count in omega (arith, count)
+
+module _ (inputs : Inputs) (store : Store) (list others : List Pass) (scripts : List (List Command)) (before : CanRunBefore inputs store list others scripts) (loader : Pass) (rest : List Pass)
+    (split : list ≡ loader ∷ rest) where
+  abbrev can : CanRunOn inputs store (list ++ others) scripts
+  can = before.can
+
+  are_loaded : AreLoaded inputs.load store (loader ∷ rest ++ others)
+  are_loaded = subst (λ xs. AreLoaded inputs.load store (xs ++ others)) split can.loaded
 
   pub first_idle : IsIdle store loader
   unfolding are_loaded
-  first_idle = loader_idle store inputs.load loader rest are_loaded
+  first_idle = loader_idle store inputs.load loader (rest ++ others) are_loaded
 
   pub rest_idle : AllByRecursion (IsIdle store) rest
   unfolding are_loaded
-  rest_idle = all_from_places (IsIdle store) rest (λ k pass at. are_loaded.idle.idle (suc k) pass at)
+  rest_idle = all_from_places (IsIdle store) rest (λ k pass at. are_loaded.idle.idle (suc k) pass (in_front rest others k pass at))
 
   pub rest_count : length rest ≡ length scripts
-  unfolding are_loaded
   rest_count =
-      let count = are_loaded.idle.count in
-      let passes = can.can.passes in
-      let same : length scripts ≡ length inputs.scripts = ap length can.scripts_are in
-      omega (arith, count, passes, same)
+      let count = before.count in
+      let whole : length list ≡ suc (length rest) = ap length split in
+      omega (arith, count, whole)
 
   pub few : length scripts < 4294967295
   few = let same : length scripts ≡ length inputs.scripts = ap length can.scripts_are in let most = can.can.inputs_are.count in omega (arith, same, most)
@@ -79,7 +98,7 @@ module _ (inputs : Inputs) (store : Store) (list : List Pass) (scripts : List (L
   -- what pass 0 has seen has the load
   unused : AreUnused store 1 rest
   unfolding are_loaded
-  unused = others_unused store inputs.load loader rest are_loaded
+  unused = unused_front store 1 rest others (others_unused store inputs.load loader (rest ++ others) are_loaded)
 
   -- ---- the seats are ready
 
@@ -98,7 +117,7 @@ module _ (inputs : Inputs) (store : Store) (list : List Pass) (scripts : List (L
     unfolding are_loaded unused
     are_ready xs at seated =
         ready_home xs at
-        (seats_ready inputs store can.can (account_of store loader).seen (loader_loaded store inputs.load loader rest are_loaded).seen 1 scripts rest (bare home pass_of store xs)
+        (seats_ready inputs store can.can (account_of store loader).seen (loader_loaded store inputs.load loader (rest ++ others) are_loaded).seen 1 scripts rest (bare home pass_of store xs)
         (subst (AreFit store.accounts.config.txns_per_pass) (sym can.scripts_are) (are_fit inputs store can.can)) unused seated)
 
     -- ---- behind them
@@ -127,7 +146,7 @@ module _ (inputs : Inputs) (store : Store) (list : List Pass) (scripts : List (L
       ended : HaveEnded inputs store 1 inputs.scripts (bare home pass_of store ys)
       unfolding are_loaded unused ready_end bare_ran
       ended = subst (λ cs. HaveEnded inputs store 1 cs (bare home pass_of store ys)) can.scripts_are
-          (have_ended inputs store can.can (account_of store loader).seen (loader_loaded store inputs.load loader rest are_loaded).seen 1 scripts rest (bare home pass_of store xs) (bare home pass_of store ys) unused seated bare_ran ready_end)
+          (have_ended inputs store can.can (account_of store loader).seen (loader_loaded store inputs.load loader (rest ++ others) are_loaded).seen 1 scripts rest (bare home pass_of store xs) (bare home pass_of store ys) unused seated bare_ran ready_end)
 
       service_idle : IsIdle store service
       unfolding are_loaded
@@ -135,7 +154,7 @@ module _ (inputs : Inputs) (store : Store) (list : List Pass) (scripts : List (L
 
       service_zero : service.seats.number ≡ 0
       unfolding are_loaded
-      service_zero = ap (λ (a : Account). a.job) served.others ∙ loader_number store inputs.load loader rest are_loaded
+      service_zero = ap (λ (a : Account). a.job) served.others ∙ loader_number store inputs.load loader (rest ++ others) are_loaded
 
       -- both lists as the code has them
       seconds : (zs : List (Progress × W)) → map (λ y. y.1) (bare home pass_of store zs) ≡ map (λ z. pass_of z.1) zs
@@ -146,11 +165,16 @@ module _ (inputs : Inputs) (store : Store) (list : List Pass) (scripts : List (L
       firsts [] = refl
       firsts (z ∷ zs) = ap (λ js. z.0 ∷ js) (firsts zs)
 
-      pub idle_again : (passes : List Pass) → passes ≡ service ∷ map (λ z. pass_of z.1) ys → AreIdle store passes
+      pub idle_again : (passes : List Pass) → passes ≡ service ∷ map (λ z. pass_of z.1) ys → AreIdleFrom store 0 passes × (length passes ≡ length list)
       unfolding ended service_idle service_zero
       idle_again passes are =
-          subst (AreIdle store) (sym (are ∙ ap (λ ps. service ∷ ps) (sym (seconds ys))))
-          (all_idle inputs store can.can service service_idle service_zero (bare home pass_of store ys) ended)
+          let same : passes ≡ service ∷ map (λ y. y.1) (bare home pass_of store ys) = are ∙ ap (λ ps. service ∷ ps) (sym (seconds ys)) in
+          let long : length passes ≡ length inputs.scripts + 1 = ap length same ∙ all_count inputs store can.can service service_idle service_zero (bare home pass_of store ys) ended in
+          let all : length scripts ≡ length inputs.scripts = ap length can.scripts_are in
+          let count = before.count in (
+            subst (AreIdleFrom store 0) (sym same) (all_idle inputs store can.can service service_idle service_zero (bare home pass_of store ys) ended),
+            omega (arith, long, all, count),
+          )
 
       pub run_again : (passes : List Pass) (jobs : List Progress) → passes ≡ service ∷ map (λ z. pass_of z.1) ys → jobs ≡ map (λ z. z.0) ys → some_gave_up xs ys ≡ false
           → HaveRunOn inputs store.accounts.config passes jobs
@@ -159,5 +183,5 @@ module _ (inputs : Inputs) (store : Store) (list : List Pass) (scripts : List (L
           subst (λ (u : List Pass × List Progress). HaveRunOn inputs store.accounts.config u.0 u.1)
           (λ i. (sym (are ∙ ap (λ ps. service ∷ ps) (sym (seconds ys))) i, sym (jobs_are ∙ sym (firsts ys)) i))
           (have_run_on inputs store can.can service service_idle service_zero (bare home pass_of store ys) ended
-          (loaded_on inputs.load (account_of store loader) (account_of store service) (loader_loaded store inputs.load loader rest are_loaded) served)
+          (loaded_on inputs.load (account_of store loader) (account_of store service) (loader_loaded store inputs.load loader (rest ++ others) are_loaded) served)
           (none_given store (account_of store loader).seen 1 scripts rest (bare home pass_of store xs) (bare home pass_of store ys) seated bare_ran (gave_bare home pass_of store xs ys ∙ none)))

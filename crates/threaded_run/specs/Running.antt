@@ -24,13 +24,13 @@ pub record IsLoadable (kind : Kind) (load : List Write) : Type 0 where
   pub allowed : AllAllowed kind empty_graph load
   pub within : AllByRecursion IsWithinLimits load
 
--- Scripts with a load, for a store with a pass for each script and one for the load. Each pass may begin all
--- transactions of its script.
+-- Scripts with a load, for a store with a pass for each script and one for the load, and maybe more, by which kernels
+-- read. Each pass may begin all transactions of its script.
 pub record CanRun (inputs : Inputs) (config : Config) : Type 0 where
   pub inputs_are : AreInputs inputs
   pub load : IsLoadable inputs.kind inputs.load
   pub kind : config.kind ≡ inputs.kind
-  pub passes : config.passes ≡ length inputs.scripts + 1
+  pub passes : length inputs.scripts + 1 ≤ config.passes
   pub begins : (k : ℕ) (cs : List Command)
       → slice_get inputs.scripts k ≡ Some cs → begun_by 0 cs ≤ config.txns_per_pass
 

@@ -1,5 +1,5 @@
 -- Passes that are lent to workers, each beside the job of its script.
-use Rattle.std.specs.Prelude.{◌≡◌, ℕ, ◌+◌, List, [], ◌∷◌}
+use Rattle.std.specs.Prelude.{◌≡◌, ℕ, ◌+◌, List, [], ◌∷◌, ◌++◌, length}
 use mathlib.Core.List.{IsPrefix}
 use Rattle.graph_model.specs.declared.journal.Commit.{Commit}
 use Rattle.graph_model.specs.Account.{Account}
@@ -18,6 +18,18 @@ pub record CanRunOn (inputs : Inputs) (store : Store) (list : List Pass) (script
   pub can : CanRun inputs store.accounts.config
   pub scripts_are : scripts ≡ inputs.scripts
   pub loaded : AreLoaded inputs.load store list
+
+-- the same of the passes of the load and of the scripts alone, behind which the others stand
+pub record CanRunBefore (inputs : Inputs) (store : Store) (list others : List Pass) (scripts : List (List Command))
+    : Type 0 where
+  pub can : CanRunOn inputs store (list ++ others) scripts
+  pub count : length list ≡ length scripts + 1
+
+-- none has a transaction, and they are numbered from here on
+abbrev pub AreIdleFrom : Store → ℕ → List Pass → Type 0
+AreIdleFrom store number [] = Unit {0}
+AreIdleFrom store number (pass ∷ passes) =
+    IsIdle store pass × (pass.seats.number ≡ number) × AreIdleFrom store (number + 1) passes
 
 -- a pass that is as it was, but that it has seen so much at least
 pub record HasMet (store : Store) (seen : List Commit) (old new : Pass) : Type 0 where

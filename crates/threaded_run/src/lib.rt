@@ -3,7 +3,8 @@
 //!
 //! 1. Pass 0 has the load, and takes the turns of the service. The pass of each script has seen the load before its
 //!    first turn.
-//! 2. However the scripts end, all passes come back without a transaction. After scripts that have all run the store
+//! 2. the passes after those of the scripts are there for kernels to read by. They make nothing.
+//! 3. However the scripts end, all passes come back without a transaction. After scripts that have all run the store
 //!    is closed with them; where one ran out of memory it is let go as it is.
 #![tactic(auto)]
 

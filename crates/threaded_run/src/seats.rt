@@ -10,20 +10,22 @@ ghost use Rattle.rebalance_service.specs.Ready.{IsReady};
 ghost use Rattle.threaded_run.specs.Seats.{AreSeated, IsSeated};
 
 use rebalance_service::below::{Pass, Store, meet};
-use rebalance_service::{Home, Worker};
+use rebalance_service::{Home, IdlePasses, Worker};
 use run_model::Script;
 use std::alloc::Global;
-use std::sync::Wait;
+use std::sync::{Mutex, Wait};
+use std::thread::Threads;
 use thread_runner::below::Job;
 
 /// Takes a pass for each script, which meets pass 0. The jobs are numbered from 1 in the order of the scripts. Takes no
 /// memory.
-pub(crate) fn seat_all<'a, R: Wait, H: Home>(
+pub(crate) fn seat_all<'a, R: Threads + Wait + Sync, H: Home>(
     rt: &'a R,
     alloc: Global,
     store: &'a Store,
     loader: &mut Pass,
     passes: &mut Vec<Pass>,
+    pool: &'a Mutex<IdlePasses<H>>,
     mut scripts: Vec<Script>,
     seats: &mut Vec<(Job, Worker<'a, R, H>)>,
 )
@@ -45,18 +47,19 @@ pub(crate) fn seat_all<'a, R: Wait, H: Home>(
         // In the order of both lists: the pass of a script has its number, by which answers name its transactions.
         let pass = passes.remove(0);
         let script = scripts.remove(0);
-        seats.push_reserved(seat_one(rt, alloc, store, loader, pass, number, script));
+        seats.push_reserved(seat_one(rt, alloc, store, loader, pass, pool, number, script));
         number += 1;
     }
 }
 
-/// A job of a script, and the worker of its pass, which has met pass 0.
-fn seat_one<'a, R: Wait, H: Home>(
+/// A job of a script, and the worker of its pass, which has met pass 0 and reads for kernels by the passes of the pool.
+fn seat_one<'a, R: Threads + Wait + Sync, H: Home>(
     rt: &'a R,
     alloc: Global,
     store: &'a Store,
     loader: &mut Pass,
     mut pass: Pass,
+    pool: &'a Mutex<IdlePasses<H>>,
     number: u32,
     script: Script,
 ) -> (Job, Worker<'a, R, H>)
@@ -72,7 +75,7 @@ fn seat_one<'a, R: Wait, H: Home>(
     meet(store, loader, &mut pass);
     (
         Job::new(alloc, number, script),
-        Worker::new(rt, store, pass),
+        Worker::with_readers(rt, store, pass, pool),
     )
 }
 
@@ -87,6 +90,7 @@ pub(crate) fn leave_all<R: Wait, H: Home>(
     requires passes { length passes.old.items + length seats.items ≤ vec_capacity passes.old }
     requires jobs { length jobs.old.items + length seats.items ≤ vec_capacity jobs.old }
     ensures passes { passes.new.items ≡ passes.old.items ++ map (λ x. x.1.pass) seats.entry.items }
+    ensures room { vec_capacity passes.new ≡ vec_capacity passes.old }
     ensures jobs { jobs.new.items ≡ jobs.old.items ++ map (λ x. x.0) seats.entry.items }
     ensures ready { AllByRecursion (λ x. IsReady store.now x.1.pass × (x.1.store.now ≡ store.now)) seats.entry.items }
 {

@@ -1,10 +1,7 @@
-use Rattle.std.proofs.Common.{◌≡◌, cond, subst, ap, ◌∙◌}
-use Rattle.std.specs.Prelude.{None}
-use Rattle.run_model.specs.AnsweredLines.{effect}
+use Rattle.std.proofs.Common.{◌≡◌, subst, ◌∙◌}
 use Rattle.run_model.specs.declared.command.Command.TheVariants as commands
-use Rattle.run_model.specs.Run.{filing_of}
 use Rattle.line_runner.specs.Kernels.{IsKernelImage}
-use Rattle.line_runner.specs.Phases.{AnswersKernel, IsFileOn}
+use Rattle.line_runner.specs.Phases.{AnswersKernel}
 use Rattle.line_runner.specs.Turns.{view_now, ReadsImage}
 use Rattle.line_runner.proofs.ViewLemmas.{kernel_image}
 use Rattle.line_runner.proofs.TurnLemmas.{reads_kind}

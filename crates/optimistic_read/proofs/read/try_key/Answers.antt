@@ -7,4 +7,4 @@ returns-clause-value c =
     let pass = c.args.pass.now in
     value_is c.args.store.now.accounts.config pass.number (state_of pass) pass.account.me.0 c.try_block.new.seat.me.0
     c.args.route.now.cell c.args.key c.try_block.result
-    (c.try_block.ensures.tried pass.number (state_of pass) c.requires.pass.sight.has c.requires.opened)
+    (c.try_block.ensures.tried pass.number (state_of pass) c.requires.may.of.sight.has c.requires.may.opened)

@@ -9,4 +9,4 @@ returns-clause-run c =
     c.try_block_run.new.seat.me.0 c.args.route.now.cell c.args.from c.args.until c.args.rows.now
     c.try_block_run.new.rows
     c.requires.ahead c.try_block_run.result
-    (c.try_block_run.ensures.tried pass.number (state_of pass) c.requires.pass.sight.has c.requires.opened)
+    (c.try_block_run.ensures.tried pass.number (state_of pass) c.requires.may.of.sight.has c.requires.may.opened)

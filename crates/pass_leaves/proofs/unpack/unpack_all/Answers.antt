@@ -1,3 +1,4 @@
+use Rattle.std.specs.Prelude.{false}
 use Rattle.std.proofs.Common.{◌∙◌, List, ◌∷◌, ◌<◌, [], ap, arith, length, length-append, subst, sym}
 use Rattle.std.specs.Vec.{vec_len}
 use Rattle.latch_table.specs.declared.cells.Held.{Held}
@@ -17,7 +18,7 @@ places-preserved c =
     let is = head_is packed h some c.remove-held.ensures.value in
     let un = subst (λ l. IsUnpacking c.args.store.now c.args.pass.now c.places.pass c.args.packed.now.items l
     c.places.cells.items) is c.places.invariant.0 in
-    let t : TakenCell = record { held = c.gather-held.result; rows = c.len-rows.result } in
+    let t : TakenCell = record { held = c.gather-held.result; rows = c.len-rows.result; words_changed = false } in
     let more = unpacking_more c.args.store.now c.args.pass.now c.places.pass c.gather-held.new.pass
     c.args.packed.now.items _ c.places.cells.items h t un c.requires.once c.gather-held.ensures.held.0
     c.gather-held.ensures.gathered c.len-rows.ensures.sound c.len-rows.ensures.len in

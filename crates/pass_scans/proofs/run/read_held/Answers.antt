@@ -31,30 +31,22 @@ learn-clock-requires-clause-stage c =
     let t = c.requires.taken in
     ap (λ (st : PassState). st.stage) (c.load_packed.ensures.loaded t.0 t.1.only.cell).1.only.state ∙ c.requires.opened
 
-pub read_rows-requires-clause-pass : goal.read_rows-requires-clause-pass
-read_rows-requires-clause-pass c =
-    let p0 = c.args.pass.now in
-    let t = c.requires.taken in
-    let l = c.load_packed.ensures.loaded t.0 t.1.only.cell in
-    (after_learning c.args.store.now c.load_packed.new.pass c.learn-clock.new.pass (state_of p0) (pin_of p0) c.args.cell l.0 0 l.1.only
-    c.learn-clock.ensures.same).of
-
-pub read_rows-requires-clause-learnt : goal.read_rows-requires-clause-learnt
-read_rows-requires-clause-learnt c =
-    learnt_still c.args.store.now.accounts.config c.load_packed.new.pass c.learn-clock.new.pass c.learn-clock.result
-    c.learn-clock.ensures.same c.learn-clock.ensures.learnt
-
-pub read_rows-requires-clause-snapshot : goal.read_rows-requires-clause-snapshot
-read_rows-requires-clause-snapshot c =
+pub read_rows-requires-clause-reading : goal.read_rows-requires-clause-reading
+read_rows-requires-clause-reading c =
     let store = c.args.store.now in
     let p0 = c.args.pass.now in
     let p1 = c.load_packed.new.pass in
     let p2 = c.learn-clock.new.pass in
     let t = c.requires.taken in
-    let of = (c.load_packed.ensures.loaded t.0 t.1.only.cell).1.only.of in
-    snapshot_still p0 p2 c.args.snapshot.now
-    (finds_then p0 p1 p2 c.load_packed.ensures.found (account_found store p1 p2 _ of c.learn-clock.ensures.same refl refl refl refl refl))
-    c.requires.snapshot
+    let l = c.load_packed.ensures.loaded t.0 t.1.only.cell in
+    record {
+      of = (after_learning store p1 p2 (state_of p0) (pin_of p0) c.args.cell l.0 0 l.1.only c.learn-clock.ensures.same).of;
+      learnt = learnt_still store.accounts.config p1 p2 c.learn-clock.result c.learn-clock.ensures.same
+          c.learn-clock.ensures.learnt;
+      sees = snapshot_still p0 p2 c.args.snapshot.now
+          (finds_then p0 p1 p2 c.load_packed.ensures.found
+          (account_found store p1 p2 _ l.1.only.of c.learn-clock.ensures.same refl refl refl refl refl)) c.requires.snapshot;
+    }
 
 pub read_rows-requires-clause-may : goal.read_rows-requires-clause-may
 read_rows-requires-clause-may c =

@@ -29,13 +29,13 @@ keys-preserved g c =
     let high = c.in-Some.found.high in
     let settled = c.in-Some.ensures.settled in
     record {
-      pass = out.pass;
-      none = out.none;
+      pass = out.back.of;
+      none = out.back.none;
       settling = settling_still c.args.store.now c.keys.pass c.settle_key.new.pass c.args.sweep.now c.args.by c.args.stamp
-          inv.settling out.same.number (keys_outside low high old.unstamped) settled.0 out.pin;
+          inv.settling out.back.same.number (keys_outside low high old.unstamped) settled.0 out.back.pin;
       stamped = stamps_cell c.args.keys.now c.keys.place _ c.keys-test.true (state_of c.args.pass.now) old
           (state_of c.settle_key.new.pass) low high inv.stamped settled.0 settled.1;
       between = λ q e. ap (λ (u : PassState). has_key u.unstamped q) settled.0 ∙ outside_gone low high old.unstamped q e;
-      pin = out.pin ∙ inv.pin;
-      same = record { number = out.same.number ∙ inv.same.number; reads = out.same.reads ∙ inv.same.reads };
+      pin = out.back.pin ∙ inv.pin;
+      same = record { number = out.back.same.number ∙ inv.same.number; reads = out.back.same.reads ∙ inv.same.reads };
     }

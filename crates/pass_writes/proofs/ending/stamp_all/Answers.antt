@@ -31,11 +31,11 @@ writes-preserved g c =
     (subst (λ (l : List Write). AreLeft kind l old.unstamped) cut inv.left) c.stamp_one.ensures.stamped in
     let next : suc place ≡ place + 1 = omega arith in
     record {
-      none = c.stamp_one.ensures.none;
+      none = c.stamp_one.ensures.back.none;
       state = on.0;
       left = subst (λ (n : ℕ). AreLeft kind (drop n ws) new.unstamped) next on.1;
-      pin = c.stamp_one.ensures.pin ∙ inv.pin;
-      same = same_again c.args.pass.now c.writes.pass c.stamp_one.new.pass inv.same c.stamp_one.ensures.same;
+      pin = c.stamp_one.ensures.back.pin ∙ inv.pin;
+      same = same_again c.args.pass.now c.writes.pass c.stamp_one.new.pass inv.same c.stamp_one.ensures.back.same;
     }
 
 pub returns-clause-stamped : goal.returns-clause-stamped

@@ -12,7 +12,7 @@ pub stamp_in_hand-requires-clause-settling : goal.stamp_in_hand-requires-clause-
 stamp_in_hand-requires-clause-settling g c =
     let out = c.settle_cells-settled.ensures in
     settling_still c.args.store.now c.args.pass.now c.settle_cells-settled.new.pass c.args.sweep.now c.args.by c.args.stamp
-    c.requires.settling out.same.number (state_of c.settle_cells-settled.new.pass).unstamped out.stamped.is out.pin
+    c.requires.settling out.back.same.number (state_of c.settle_cells-settled.new.pass).unstamped out.stamped.is out.back.pin
 
 pub returns-then-settled-keys-clause-stamped : goal.returns-then-settled-keys-clause-stamped
 returns-then-settled-keys-clause-stamped g c =

@@ -1,39 +1,61 @@
 use Rattle.std.proofs.Common.{◌≡◌, ℕ, ◌∙◌, ap, subst, sym}
 use Rattle.std.specs.Prelude.{Err}
 use Rattle.pass_prunes.specs.RowWrites.Checks.{TellsEdges}
+use Rattle.pass_prunes.specs.RowWritesDeclared.written.WrittenRows.{WrittenRows}
+use Rattle.pass_prunes.specs.PassCells.Taken.{rows_in}
 use Rattle.pass_prunes.specs.StoreRelation.Passes.{PassState}
 use Rattle.pass_prunes.specs.PassSteps.Passes.{state_of}
-use Rattle.pass_writes.specs.Found.{Finds, view_of}
-use Rattle.pass_writes.specs.Making.{after_refusal}
+use Rattle.pass_writes.specs.Found.{Finds, MayBeMade, view_of}
+use Rattle.pass_writes.specs.Making.{HoldsRowsOf, after_refusal}
 use Rattle.pass_writes.proofs.MakeLemmas.{few, lays, new_hand, new_state}
-use Rattle.pass_writes.proofs.StateLemmas.{learnt_steps, refused_makes}
+use Rattle.pass_writes.proofs.StateLemmas.{learnt_steps, learnt_still, refused_makes, snapshot_of}
 use Rattle.pass_writes.proofs.making.write_in_hand.Goals as goal
 
-pub check-requires-clause-hand : goal.check-requires-clause-hand
-check-requires-clause-hand c =
-    (learnt_steps c.args.store.now c.args.pass.now c.learn-clock.new.pass c.args.cells.now.taken.list.items
-    c.requires.hand c.learn-clock.ensures.same).hand
+pub check-requires-clause-reading : goal.check-requires-clause-reading
+check-requires-clause-reading c =
+    let store = c.args.store.now in
+    let p0 = c.args.pass.now in
+    let p1 = c.learn-clock.new.pass in
+    let stepped = learnt_steps store p0 p1 c.args.cells.now.taken.list.items c.requires.hand c.learn-clock.ensures.same in
+    record {
+      hand = stepped.hand;
+      learnt = learnt_still store.accounts.config p0 p1 c.learn-clock.result c.learn-clock.ensures.same
+          c.learn-clock.ensures.learnt;
+      sees = snapshot_of p0 p1 c.args.begun c.requires.opened stepped.same stepped.state;
+    }
 
-pub check-requires-clause-edges : goal.check-requires-clause-edges
-check-requires-clause-edges c =
-    let steps = learnt_steps c.args.store.now c.args.pass.now c.learn-clock.new.pass
-    c.args.cells.now.taken.list.items c.requires.hand c.learn-clock.ensures.same in
-    subst (λ (st : PassState). TellsEdges (λ x answer. answer ≡ c.args.has_edges)
-    (view_of c.args.store.now.accounts.config.kind st) c.args.write) (sym steps.state) c.requires.edges
+pub check-requires-clause-known : goal.check-requires-clause-known
+check-requires-clause-known c =
+    let store = c.args.store.now in
+    let stepped = learnt_steps store c.args.pass.now c.learn-clock.new.pass c.args.cells.now.taken.list.items
+    c.requires.hand c.learn-clock.ensures.same in
+    record {
+      within = c.requires.known.within;
+      edges = subst (λ (st : PassState). TellsEdges (λ v answer. answer ≡ c.args.has_edges)
+          (view_of store.accounts.config.kind st) c.args.write) (sym stepped.state) c.requires.known.edges;
+    }
 
-pub lay-requires-clause-may : goal.lay-requires-clause-may
-lay-requires-clause-may c =
-    lays c.rows_in_hand_are_known.ensures c.args.store.now c.args.pass.now c.learn-clock.new.pass c.check.new.pass
-    c.args.cells.now.taken.list.items c.learn-clock.result c.requires.hand c.learn-clock.ensures.same
-    c.learn-clock.ensures.learnt c.in-Ok.ensures.looked c.args.write c.args.rows.now c.requires.rows c.requires.held
-    c.in-Ok.ensures.found.allowed
+pub lay-requires-clause-can : goal.lay-requires-clause-can
+lay-requires-clause-can c =
+    let found = c.in-Ok.ensures.found in
+    let new = c.check.new.pass in
+    record {
+      found = subst (λ p. MayBeMade c.args.store.now.accounts.config new.account.me.0 p (state_of new) c.args.write)
+          (sym c.in-Ok.ensures.looked.number) found;
+      may = lays c.rows_in_hand_are_known.ensures c.args.store.now c.args.pass.now c.learn-clock.new.pass new
+          c.args.cells.now.taken.list.items c.learn-clock.result c.requires.hand c.learn-clock.ensures.same
+          c.learn-clock.ensures.learnt c.in-Ok.ensures.looked c.args.write c.args.rows.now c.requires.rows.are
+          c.requires.rows.held found.allowed;
+      few = few c.rows_in_hand_are_known.ensures c.args.store.now c.args.pass.now c.learn-clock.new.pass new
+          c.args.cells.now.taken.list.items c.learn-clock.result c.requires.hand c.learn-clock.ensures.same
+          c.learn-clock.ensures.learnt c.in-Ok.ensures.looked c.args.write c.args.rows.now c.requires.rows.are
+          c.requires.rows.held found.allowed;
+    }
 
-pub lay-requires-clause-few : goal.lay-requires-clause-few
-lay-requires-clause-few c =
-    few c.rows_in_hand_are_known.ensures c.args.store.now c.args.pass.now c.learn-clock.new.pass c.check.new.pass
-    c.args.cells.now.taken.list.items c.learn-clock.result c.requires.hand c.learn-clock.ensures.same
-    c.learn-clock.ensures.learnt c.in-Ok.ensures.looked c.args.write c.args.rows.now c.requires.rows c.requires.held
-    c.in-Ok.ensures.found.allowed
+pub lay-requires-clause-rows : goal.lay-requires-clause-rows
+lay-requires-clause-rows c =
+    subst (λ (r : WrittenRows). HoldsRowsOf c.args.store.now.accounts.config.kind (rows_in c.args.cells.now.taken)
+    c.args.write r) (sym c.find-found.ensures) c.requires.rows
 
 pub lay-requires-clause-hand : goal.lay-requires-clause-hand
 lay-requires-clause-hand c =

@@ -1,4 +1,4 @@
-use Rattle.std.proofs.Common.{◌≡◌, refl, inl}
+use Rattle.std.proofs.Common.{◌≡◌, ◌∙◌, refl, inl}
 use Rattle.std.specs.Prelude.{false}
 use Rattle.edge_scan.proofs.StepLemmas.{steps_are_a_scan}
 use Rattle.pass_prunes.specs.PassSteps.Passes.{state_of}
@@ -30,7 +30,7 @@ returns-then-scan_cell-clause-answer g c =
     steps_are_a_scan (view_of kind (state_of c.args.pass.now)) c.args.cursor.now c.scan_cell.new.cursor
     c.scan_cell.new.rows
     (under_way_on kind c.args.begun c.args.pass.now c.cells.pass c.scan_cell.new.pass c.args.cursor.now c.cells.cursor
-    c.scan_cell.new.cursor c.cells.rows c.scan_cell.new.rows c.cells.invariant.scanning call.state call.pin call.same
+    c.scan_cell.new.cursor c.cells.rows c.scan_cell.new.rows c.cells.invariant.scanning call.state call.back.pin call.back.same
     c.scan_cell.result call.portion)
     (call.portion.portion c.if-scan_cell.true)
 
@@ -39,23 +39,24 @@ returns-then-scan_cell-clause-state g c =
     let call = c.scan_cell.ensures in
     notes_on c.args.store.now.accounts.config.kind c.args.begun c.args.pass.now c.cells.pass c.scan_cell.new.pass
     c.args.cursor.now c.cells.cursor c.scan_cell.new.cursor c.cells.rows c.scan_cell.new.rows
-    c.cells.invariant.scanning call.state call.pin call.same c.scan_cell.result call.portion
+    c.cells.invariant.scanning call.state call.back.pin call.back.same c.scan_cell.result call.portion
 
-pub returns-then-scan_cell-clause-same : goal.returns-then-scan_cell-clause-same
-returns-then-scan_cell-clause-same g c =
+pub returns-then-scan_cell-clause-back : goal.returns-then-scan_cell-clause-back
+returns-then-scan_cell-clause-back g c =
     let call = c.scan_cell.ensures in
-    same_on c.args.store.now.accounts.config.kind c.args.begun c.args.pass.now c.cells.pass c.scan_cell.new.pass
+    let same = same_on c.args.store.now.accounts.config.kind c.args.begun c.args.pass.now c.cells.pass c.scan_cell.new.pass
     c.args.cursor.now c.cells.cursor c.scan_cell.new.cursor c.cells.rows c.scan_cell.new.rows
-    c.cells.invariant.scanning call.state call.pin call.same c.scan_cell.result call.portion
+    c.cells.invariant.scanning call.state call.back.pin call.back.same c.scan_cell.result call.portion in
+    record { none = call.back.none; pin = call.back.pin ∙ c.cells.invariant.scanning.pin; same = same }
 
 pub cells-preserved : goal.cells-preserved
 cells-preserved g c =
     let call = c.scan_cell.ensures in record {
-      none = call.none;
-      opened = still_open c.args.begun c.cells.pass c.scan_cell.new.pass call.state call.pin call.same
+      none = call.back.none;
+      opened = still_open c.args.begun c.cells.pass c.scan_cell.new.pass call.state call.back.pin call.back.same
           c.cells.invariant.opened;
       scanning = scanning_on c.args.store.now.accounts.config.kind c.args.begun c.args.pass.now c.cells.pass
           c.scan_cell.new.pass c.args.cursor.now c.cells.cursor c.scan_cell.new.cursor c.cells.rows
-          c.scan_cell.new.rows c.cells.invariant.scanning call.state call.pin call.same c.scan_cell.result
+          c.scan_cell.new.rows c.cells.invariant.scanning call.state call.back.pin call.back.same c.scan_cell.result
           call.portion c.if-scan_cell.false;
     }

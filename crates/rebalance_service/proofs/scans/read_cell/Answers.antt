@@ -9,7 +9,7 @@ read_packed-requires-clause-begun g c =
 pub returns-clause-kept : goal.returns-clause-kept
 returns-clause-kept g c =
     let read = c.read_packed.ensures in
-    found_open c.args.store.now c.args.pass.now c.read_packed.new.pass c.requires.opened read.pass read.none read.found
+    found_open c.args.store.now c.args.pass.now c.read_packed.new.pass c.requires.opened read.idle.of read.idle.none read.found
 
 pub returns-clause-run : goal.returns-clause-run
 returns-clause-run g c =

@@ -6,18 +6,15 @@ use Rattle.reader_parts.specs.SharedStore.Passes.{account_of}
 use Rattle.rebalance_service.proofs.RoomLemmas.{full_writes, memory_writes, one_or_two, written_below}
 use Rattle.rebalance_service.proofs.writes.make_way.Goals as goal
 
-pub room_for-requires-clause-below : goal.room_for-requires-clause-below
-room_for-requires-clause-below g c =
-    subst (λ (k : Key). is_below k end_key ≡ true) (sym c.key.ensures)
-    (written_below c.args.store.now.accounts.config.kind c.args.write _ c.requires.within c.requires.needs.0)
-
-pub room_for-requires-clause-some : goal.room_for-requires-clause-some
-room_for-requires-clause-some g c =
-    subst (λ n. 1 ≤ n) (sym c.need.ensures) (one_or_two _ c.requires.needs.1).0
-
-pub room_for-requires-clause-few : goal.room_for-requires-clause-few
-room_for-requires-clause-few g c =
-    subst (λ n. n ≤ 2) (sym c.need.ensures) (one_or_two _ c.requires.needs.1).1
+pub room_for-requires-clause-asked : goal.room_for-requires-clause-asked
+room_for-requires-clause-asked g c =
+    let counted = one_or_two _ c.requires.needs.1 in
+    record {
+      below = subst (λ (k : Key). is_below k end_key ≡ true) (sym c.key.ensures)
+          (written_below c.args.store.now.accounts.config.kind c.args.write _ c.requires.within c.requires.needs.0);
+      some = subst (λ n. 1 ≤ n) (sym c.need.ensures) counted.0;
+      few = subst (λ n. n ≤ 2) (sym c.need.ensures) counted.1;
+    }
 
 pub returns-in-Err-Full-clause-refused : goal.returns-in-Err-Full-clause-refused
 returns-in-Err-Full-clause-refused g c =

@@ -4,5 +4,5 @@ use Rattle.shared_store.proofs.reads.has_vertex.Goals as goal
 
 pub returns-clause-kept : goal.returns-clause-kept
 returns-clause-kept g c =
-    reads_keep c.args.store.now c.args.pass.now _ c.requires.opened c.value.ensures.none c.value.ensures.state
-    c.value.ensures.pin c.value.ensures.same refl refl refl refl
+    reads_keep c.args.store.now c.args.pass.now _ c.requires.opened c.value.ensures.back.none c.value.ensures.state
+    c.value.ensures.back.pin c.value.ensures.back.same refl refl refl refl

@@ -9,4 +9,4 @@ returns-clause-aborts g c =
     aborts_account store old c.unpin.new.pass c.requires.opened
     (aborted_state store old.seats c.stop.new.pass c.undo_all.new.pass c.end.new.pass c.unpin.new.pass
     c.stop.ensures c.undo_all.ensures.undone c.end.ensures c.unpin.ensures)
-    (c.unpin.ensures.number ∙ c.end.ensures.number ∙ c.undo_all.ensures.same.number ∙ c.stop.ensures.number)
+    (c.unpin.ensures.number ∙ c.end.ensures.number ∙ c.undo_all.ensures.back.same.number ∙ c.stop.ensures.number)

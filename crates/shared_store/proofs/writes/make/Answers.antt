@@ -11,17 +11,18 @@ write-written-requires-clause-opened g c =
     open_in c.args.store.now c.args.pass.now c.latest-begun.result c.requires.opened c.latest-begun.ensures.by
     c.latest-begun.ensures.start
 
-pub write-written-requires-clause-edges : goal.write-written-requires-clause-edges
-write-written-requires-clause-edges g c =
-    subst (λ graph. TellsEdges (λ v answer. answer ≡ c.args.has_edges) graph c.args.write)
-    (view_is c.args.store.now c.args.pass.now c.requires.opened)
-    c.requires.edges
+pub write-written-requires-clause-known : goal.write-written-requires-clause-known
+write-written-requires-clause-known g c = record {
+  within = c.requires.within;
+  edges = subst (λ graph. TellsEdges (λ v answer. answer ≡ c.args.has_edges) graph c.args.write)
+      (view_is c.args.store.now c.args.pass.now c.requires.opened) c.requires.edges;
+}
 
 pub returns-clause-opened : goal.returns-clause-opened
 returns-clause-opened g c =
     makes_kept c.args.store.now c.args.pass.now _ c.keep.new.pass c.args.write c.write-written.result
-    c.requires.opened c.requires.within c.write-written.ensures.none c.write-written.ensures.makes
-    c.write-written.ensures.pin c.write-written.ensures.same refl refl refl refl c.keep.ensures
+    c.requires.opened c.requires.within c.write-written.ensures.back.none c.write-written.ensures.makes
+    c.write-written.ensures.back.pin c.write-written.ensures.back.same refl refl refl refl c.keep.ensures
 
 pub returns-clause-makes : goal.returns-clause-makes
 returns-clause-makes g c =
@@ -30,4 +31,4 @@ returns-clause-makes g c =
     c.write-written.result (state_of s)) (sym c.keep.ensures.seats) c.write-written.ensures.makes
 
 pub returns-clause-number : goal.returns-clause-number
-returns-clause-number g c = (λ i. (c.keep.ensures.seats i).number) ∙ c.write-written.ensures.same.number
+returns-clause-number g c = (λ i. (c.keep.ensures.seats i).number) ∙ c.write-written.ensures.back.same.number

@@ -13,7 +13,7 @@ turns-preserved g c =
       commits_by = λ s t r d. (let m = g.met.E.Engine.commits s t r d in (m.0, m.1.legal));
       aborts_by = λ s t d. (let m = g.met.E.Engine.aborts s t d in (m.0, m.1.legal));
     } in
-    let took = c.turn-in-turns in
+    let took = c.turn_parts in
     let now = g.E.Engine.account c.turns.engine in
     let going = sym c.has_ended.ensures ∙ c.turns-test.true in
     let ready = c.turns.invariant.ready going in
@@ -39,4 +39,4 @@ turns-smaller g c =
       aborts_by = λ s t d. (let m = g.met.E.Engine.aborts s t d in (m.0, m.1.legal));
     } in
     let going = sym c.has_ended.ensures ∙ c.turns-test.true in
-    left_fewer e by c.turns.engine c.turns.job (c.turns.invariant.ready going) going c.turn-in-turns.new.self c.turn-in-turns.new.engine c.turn-in-turns.result c.turn-in-turns.ensures.took
+    left_fewer e by c.turns.engine c.turns.job (c.turns.invariant.ready going) going c.turn_parts.new.self c.turn_parts.new.engine c.turn_parts.result c.turn_parts.ensures.took

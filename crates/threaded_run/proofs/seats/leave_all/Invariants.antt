@@ -12,6 +12,7 @@ invariant-seats g l = record {
   ready : AllByRecursion (λ x. IsReady l.store x.1.pass × (x.1.store.now ≡ l.store)) l.seats.items
       → AllByRecursion (λ x. IsReady l.store x.1.pass × (x.1.store.now ≡ l.store)) l.fn.seats.items;
   room_passes : length l.passes.items + length l.seats.items ≤ vec_capacity l.passes;
+  capacity : vec_capacity l.passes ≡ vec_capacity l.fn.passes;
   room_jobs : length l.jobs.items + length l.seats.items ≤ vec_capacity l.jobs;
 }
 

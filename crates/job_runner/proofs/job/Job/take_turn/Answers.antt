@@ -51,9 +51,9 @@ returns-in-Answering-clause-ok g c =
     (c.keep-in-Answering.ensures ∙ (λ i. record {
       number = (fields i).number;
       commands = (fields i).commands;
-      answers = (c.push_within.ensures.put ∙ ap (λ xs. xs ++ given.answer ∷ []) (c.reserve.ensures.kept ∙ ap (λ (x : Progress). x.answers) fields)) i;
-      tables = (c.push_table.ensures ∙ ap (λ xs. xs ++ listed_table given.table) (c.reserve-2.ensures.kept ∙ ap (λ (x : Progress). x.tables) fields)) i;
-      phase = given.phase;
+      answers = (c.push_answer-self-inside.ensures.answers ∙ ap (λ xs. xs ++ given.answer ∷ []) (c.reserve.ensures.kept ∙ ap (λ (x : Progress). x.answers) fields)) i;
+      tables = (c.push_answer-self-inside.ensures.tables ∙ ap (λ xs. xs ++ listed_table given.table) (c.reserve-2.ensures.kept ∙ ap (λ (x : Progress). x.tables) fields)) i;
+      phase = c.push_answer-self-inside.ensures.phase i;
       reading = None;
       image = (c.kept_behind-image.ensures ∙ ap (λ (x : Progress). image_behind x.phase given c.take_line.new.image) fields) i;
     }))

@@ -20,7 +20,7 @@ returns-clause-taken g c =
     let store = c.args.store.now in
     let old = c.args.pass.now in
     let ts = c.args.self.now.taken.list.items in
-    let t : TakenCell = record { held = c.gather-held.result; rows = c.len-rows.result } in
+    let t : TakenCell = record { held = c.gather-held.result; rows = c.len-rows.result; words_changed = false } in
     let mid : Pass = record {
       number = old.number;
       latch = c.take_next_place.new.latch;
@@ -44,7 +44,7 @@ returns-clause-next g c =
     let store = c.args.store.now in
     let old = c.args.pass.now in
     let ts = c.args.self.now.taken.list.items in
-    let t : TakenCell = record { held = c.gather-held.result; rows = c.len-rows.result } in
+    let t : TakenCell = record { held = c.gather-held.result; rows = c.len-rows.result; words_changed = false } in
     let mid : Pass = record {
       number = old.number;
       latch = c.take_next_place.new.latch;

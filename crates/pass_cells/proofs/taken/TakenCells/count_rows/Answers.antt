@@ -19,7 +19,7 @@ cells-preserved c =
     let there = slice_get_read now (length now) i t refl within c.index_mut.ensures.value in
     let read = slice_get_read now (length now) i c.index.result.now refl within c.index.ensures in
     let same = some_is c.index.result.now t (sym read ∙ there) in (
-      ap (λ l. slice_set l i (record { held = t.held; rows = c.len-rows.result })) c.cells.invariant.0
+      ap (λ l. slice_set l i (record { held = t.held; rows = c.len-rows.result; words_changed = t.words_changed })) c.cells.invariant.0
           ∙ count_more all i _ t c.len-rows.result refl (sym (ap (λ l. slice_get l i) c.cells.invariant.0) ∙ there)
           (c.len-rows.ensures.len ∙ ap (λ (x : TakenCell). length x.held.value.rows) same),
       c.cells.invariant.1,

@@ -11,14 +11,14 @@ use Rattle.pass_cells.proofs.CellLemmas.{at_place}
 use Rattle.pass_cells.proofs.RoomLemmas.{among_own, wanted_is}
 use Rattle.pass_cells.proofs.taken.TakenCells.need_at.Goals as goal
 
-pub returns-then-has_row-clause-none : goal.returns-then-has_row-clause-none
-returns-then-has_row-clause-none c =
+pub returns-then-has_row_near-clause-none : goal.returns-then-has_row_near-clause-none
+returns-then-has_row_near-clause-none c =
     let cells = c.args.self.now.list.items in
     let there = slice_get_read cells
     (length cells) c.place_of.result c.index.result.now refl c.place_of.ensures.within c.index.ensures in
     let own = (at_place cells c.args.key c.place_of.result c.index.result.now c.place_of.ensures.place there).0 in
     λ _ none. never (has_row (cell_at cells c.args.key) c.args.key)
-    (ap (λ (s : VersionedRows). has_row s c.args.key) (sym own) ∙ sym c.has_row.ensures ∙ c.if-has_row.true) none
+    (ap (λ (s : VersionedRows). has_row s c.args.key) (sym own) ∙ sym c.has_row_near.ensures ∙ c.if-has_row_near.true) none
 
 pub returns-then-from-room-clause-none : goal.returns-then-from-room-clause-none
 returns-then-from-room-clause-none c =
@@ -41,8 +41,8 @@ at-requires c =
     let there = slice_get_read cells
     (length cells) c.place_of.result c.index.result.now refl c.place_of.ensures.within c.index.ensures in
     let own = (at_place cells c.args.key c.place_of.result c.index.result.now c.place_of.ensures.place there).0 in
-    let none = ap (λ (s : VersionedRows). has_row s c.args.key) (sym own) ∙ sym c.has_row.ensures
-    ∙ c.if-has_row.false in
+    let none = ap (λ (s : VersionedRows). has_row s c.args.key) (sym own) ∙ sym c.has_row_near.ensures
+    ∙ c.if-has_row_near.false in
     let wants = wanted_is cells c.requires.rising c.args.key c.args.other c.requires.held none in
     let need = c.places_for-need.ensures ∙ ap (λ (s : VersionedRows). 1 + also_missing s c.args.other) own in
     let room : c.room.result + length (cell_at cells c.args.key).rows ≡ SEGMENT_ROWS =
