@@ -1,7 +1,7 @@
 -- What a closed store shows is what a run of scripts side by side asks for.
-use Rattle.std.proofs.Common.{◌≡◌, ℕ, zero, suc, ◌+◌, ◌*◌, ◌<◌, ◌≤◌, List, [], ◌∷◌, ◌++◌, length, map, refl, sym, ◌∙◌, ap, subst, arith, inl, inr, length-append}
+use Rattle.std.proofs.Common.{◌≡◌, ℕ, zero, suc, ◌+◌, ◌*◌, ◌<◌, ◌≤◌, List, [], ◌∷◌, length, map, refl, sym, ◌∙◌, ap, subst, arith, inl, inr, length-append}
 use Rattle.std.proofs.lemmas.List.{length-map}
-use Rattle.std.specs.Prelude.{◌⊎◌, true, Some, slice_get}
+use Rattle.std.specs.Prelude.{◌⊎◌, Some, slice_get}
 use Rattle.std.specs.List.{flat_map}
 use Rattle.graph_model.specs.declared.limits.TheConstants.{SPLIT_ROWS}
 use Rattle.graph_model.specs.declared.journal.Commit.{Commit}
@@ -11,7 +11,7 @@ use Rattle.graph_model.specs.Legal.{IsLegal}
 use Rattle.graph_model.proofs.PlaceLemmas.{some_eq}
 use Rattle.run_model.specs.declared.answer.Answer.{Answer}
 use Rattle.run_model.specs.declared.command.Command.{Command}
-use Rattle.run_model.specs.Inputs.{Inputs, AreInputs, File}
+use Rattle.run_model.specs.Inputs.{Inputs, File}
 use Rattle.run_model.specs.Run.{load_stamp}
 use Rattle.run_model.proofs.ListLemmas.{all_weaker, there}
 use Rattle.side_runs.specs.ByAccount.{HasRunBy}
