@@ -37,7 +37,7 @@ put_append (t ∷ ts) (s ∷ ss) [] rs ns vs one two = absurd one
 
 pub put_self : (ts : List TakenCell) → HavePut ts (values_of ts) ts
 put_self [] = tt
-put_self (t ∷ ts) = (record { cell = refl; mark = refl; rows = refl; value = refl }, put_self ts)
+put_self (t ∷ ts) = (record { cell = refl; value_mark = refl; mark = refl; rows = refl; value = refl }, put_self ts)
 
 pub keeps_self : (ts : List TakenCell) → AreSound (values_of ts) → KeepsContents ts ts
 keeps_self ts sound = record {
