@@ -191,7 +191,7 @@ same_self (s ∷ ss) = (record { low = refl; high = refl; rows = refl }, same_se
 
 put_self : (ts : List TakenCell) → HavePut ts (values_of ts) ts
 put_self [] = tt
-put_self (t ∷ ts) = (record { cell = refl; mark = refl; rows = refl; value = refl }, put_self ts)
+put_self (t ∷ ts) = (record { cell = refl; value_mark = refl; mark = refl; rows = refl; value = refl }, put_self ts)
 
 -- cells of which nothing changed, where both halves are sound
 pub keeps_self : (ts : List TakenCell) → AllByRecursion IsSegment (values_of (take 8 ts))
