@@ -11,11 +11,11 @@ use Rattle.command_words.specs.declared.refusal.WordsRefusal.{WordsRefusal}
 use Rattle.command_words.specs.declared.refusal.WordsRefusal.TheVariants as word_refusals
 use Rattle.command_words.specs.Words.{RunRequest, MakeRequest, RecoverRequest, Request, run, make, recover, IsTaken}
 use Rattle.command_words.specs.Views.{RefusesWords}
-use Rattle.teseo_program.specs.declared.left.Left.{Left}
-use Rattle.teseo_program.specs.declared.outcome.Outcome.{Outcome}
-use Rattle.teseo_program.specs.declared.outcome.Outcome.TheVariants.{Done, Full, LoadFull, BadWords, NotRead, NotAccepted, NoMemory, NotWritten}
-use Rattle.teseo_program.specs.Outcomes.{status_of, outcome_of_words, OnlySays, IsRunOutcome, IsMakeOutcome}
-use Rattle.teseo_program.specs.Prepared.{Writes}
+use Rattle.kept_run.specs.TeseoProgramDeclared.left.Left.{Left}
+use Rattle.kept_run.specs.TeseoProgramDeclared.outcome.Outcome.{Outcome}
+use Rattle.kept_run.specs.TeseoProgramDeclared.outcome.Outcome.TheVariants.{Done, Full, LoadFull, BadWords, NotRead, NotAccepted, NoMemory, NotWritten}
+use Rattle.kept_run.specs.TeseoProgram.Outcomes.{status_of, outcome_of_words, OnlySays, IsRunOutcome, IsMakeOutcome}
+use Rattle.kept_run.specs.TeseoProgram.Prepared.{Writes}
 use Rattle.kept_program.specs.declared.outcome.KeptOutcome.{KeptOutcome}
 use Rattle.kept_program.specs.declared.outcome.KeptOutcome.TheVariants.{Of, NotMade, NotKept, NotAJournal, NotRecovered}
 use Rattle.kept_program.specs.Outcomes.{kept_status, RunEnds, RecoverEnds, IsRecovery, Ends, IsEnd, TellsFaults, CreatesNothing}

@@ -14,14 +14,14 @@ use Rattle.command_words.proofs.WordLemmas.{taken_once}
 use Rattle.kept_run.specs.SourceRun.Requests.{kind_of}
 use Rattle.kept_run.specs.SourceRun.Input.{Meaning, texts_of, IsAccepted, inputs_of}
 use Rattle.kept_run.specs.SourceRun.Leaves.{most_rows}
-use Rattle.teseo_program.specs.declared.left.Left.{Left}
-use Rattle.teseo_program.specs.declared.outcome.Outcome.{Outcome}
-use Rattle.teseo_program.specs.declared.outcome.Outcome.TheVariants as ends
-use Rattle.teseo_program.specs.Outcomes.{status_of, outcome_of_words, IsRunOutcome, IsMakeOutcome}
-use Rattle.teseo_program.specs.Laws.{AreTold, Stands, HasNoFault}
-use Rattle.teseo_program.proofs.LawLemmas.{end_well, graphs_made, stands_still}
-use Rattle.teseo_program.proofs.EndLemmas.{room_ends_well}
-use Rattle.teseo_program.proofs.NamedLemmas.{faulty_named, long_named}
+use Rattle.kept_run.specs.TeseoProgramDeclared.left.Left.{Left}
+use Rattle.kept_run.specs.TeseoProgramDeclared.outcome.Outcome.{Outcome}
+use Rattle.kept_run.specs.TeseoProgramDeclared.outcome.Outcome.TheVariants as ends
+use Rattle.kept_run.specs.TeseoProgram.Outcomes.{status_of, outcome_of_words, IsRunOutcome, IsMakeOutcome}
+use Rattle.kept_run.specs.TeseoProgram.Laws.{AreTold, Stands, HasNoFault}
+use Rattle.kept_run.proofs.TeseoProgram.LawLemmas.{end_well, graphs_made, stands_still}
+use Rattle.kept_run.proofs.TeseoProgram.EndLemmas.{room_ends_well}
+use Rattle.kept_run.proofs.TeseoProgram.NamedLemmas.{faulty_named, long_named}
 use Rattle.desk_io.specs.declared.sources.ReadStop.TheVariants as stops
 use Rattle.kept_run.specs.RunKeeper.Keeping.{acknowledged_on}
 use Rattle.kept_program.specs.declared.outcome.KeptOutcome.{KeptOutcome}

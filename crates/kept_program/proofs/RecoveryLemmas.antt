@@ -10,10 +10,10 @@ use Rattle.journal_recovery.specs.JournalFileDeclared.refusal.RecoverRefusal.The
 use Rattle.journal_recovery.specs.JournalFile.Reading.{Opened, opened}
 use Rattle.journal_recovery.specs.JournalFile.Recovering.{IsRefused}
 use Rattle.command_words.specs.Words.{RecoverRequest}
-use Rattle.teseo_program.specs.declared.outcome.Outcome.{Outcome}
-use Rattle.teseo_program.specs.declared.prepare.Prepared.{Prepared}
-use Rattle.teseo_program.specs.Outcomes.{said_text, blamed, OnlySays}
-use Rattle.teseo_program.specs.Prepared.{Writes, IsWritten}
+use Rattle.kept_run.specs.TeseoProgramDeclared.outcome.Outcome.{Outcome}
+use Rattle.kept_run.specs.TeseoProgramDeclared.prepare.Prepared.{Prepared}
+use Rattle.kept_run.specs.TeseoProgram.Outcomes.{said_text, blamed, OnlySays}
+use Rattle.kept_run.specs.TeseoProgram.Prepared.{Writes, IsWritten}
 use Rattle.kept_program.specs.declared.outcome.KeptOutcome.{KeptOutcome}
 use Rattle.kept_program.specs.declared.outcome.KeptOutcome.TheVariants.{Of}
 use Rattle.kept_program.specs.Outcomes.{stop_text, outcome_of_recovery, IsRecovery, RecoverEnds}

@@ -22,15 +22,15 @@ use Rattle.kept_run.specs.SourceRunDeclared.ran.RunResult.{RunResult}
 use Rattle.kept_run.specs.SourceRun.Input.{Meaning, texts_of, IsAccepted, inputs_of}
 use Rattle.kept_run.specs.SourceRun.Leaves.{leaves_for, most_rows}
 use Rattle.kept_run.specs.SourceRun.Running.{run_outputs, journal_of, IsRunAs, IsLeftOf, HasCounts, IsRefusedLoad}
-use Rattle.teseo_program.specs.declared.left.Left.{Left}
-use Rattle.teseo_program.specs.declared.outcome.Outcome.{Outcome}
-use Rattle.teseo_program.specs.declared.outcome.Outcome.TheVariants as ends
-use Rattle.teseo_program.specs.declared.prepare.Prepared.{Prepared}
-use Rattle.teseo_program.specs.Outcomes.{said_text, shows_full, left_of, OnlySays, IsLeft, IsRunOutcome}
-use Rattle.teseo_program.specs.Prepared.{IsUnprepared, AreAccepted, IsMadeOf, IsPreparedOf, Writes, IsWritten}
-use Rattle.teseo_program.specs.Sinks.{sinks_of, summary_line}
-use Rattle.teseo_program.proofs.OutcomeLemmas.{written_ends, unprepared_ends}
-use Rattle.teseo_program.proofs.PreparedLemmas.{made_from, stopped_load, load_unprepared, prepared_of}
+use Rattle.kept_run.specs.TeseoProgramDeclared.left.Left.{Left}
+use Rattle.kept_run.specs.TeseoProgramDeclared.outcome.Outcome.{Outcome}
+use Rattle.kept_run.specs.TeseoProgramDeclared.outcome.Outcome.TheVariants as ends
+use Rattle.kept_run.specs.TeseoProgramDeclared.prepare.Prepared.{Prepared}
+use Rattle.kept_run.specs.TeseoProgram.Outcomes.{said_text, shows_full, left_of, OnlySays, IsLeft, IsRunOutcome}
+use Rattle.kept_run.specs.TeseoProgram.Prepared.{IsUnprepared, AreAccepted, IsMadeOf, IsPreparedOf, Writes, IsWritten}
+use Rattle.kept_run.specs.TeseoProgram.Sinks.{sinks_of, summary_line}
+use Rattle.kept_run.proofs.TeseoProgram.OutcomeLemmas.{written_ends, unprepared_ends}
+use Rattle.kept_run.proofs.TeseoProgram.PreparedLemmas.{made_from, stopped_load, load_unprepared, prepared_of}
 use Rattle.kept_program.specs.declared.outcome.KeptOutcome.{KeptOutcome}
 use Rattle.kept_program.specs.declared.outcome.KeptOutcome.TheVariants.{Of, NotMade, NotKept, NotAJournal, NotRecovered}
 use Rattle.kept_program.specs.Outcomes.{stop_text, blamed_by, outcome_of_stop, KeepsSome, HasStopped, Keeps, IsKeptRun, KeptRunEnds}

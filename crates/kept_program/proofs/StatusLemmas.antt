@@ -4,9 +4,9 @@ use Rattle.desk_io.specs.Files.{Files}
 use Rattle.desk_io.specs.declared.sources.ReadStop.TheVariants.{TooLong}
 use Rattle.journal_disk.specs.Disk.{DiskState}
 use Rattle.command_words.specs.Words.{Request, run, make, recover, IsTaken}
-use Rattle.teseo_program.specs.declared.left.Left.{Left}
-use Rattle.teseo_program.specs.declared.outcome.Outcome.TheVariants.{BadWords, NotRead, NotAccepted}
-use Rattle.teseo_program.specs.Laws.{Stands, HasNoFault}
+use Rattle.kept_run.specs.TeseoProgramDeclared.left.Left.{Left}
+use Rattle.kept_run.specs.TeseoProgramDeclared.outcome.Outcome.TheVariants.{BadWords, NotRead, NotAccepted}
+use Rattle.kept_run.specs.TeseoProgram.Laws.{Stands, HasNoFault}
 use Rattle.kept_run.specs.RunKeeper.Keeping.{acknowledged_on}
 use Rattle.kept_program.specs.declared.outcome.KeptOutcome.{KeptOutcome}
 use Rattle.kept_program.specs.declared.outcome.KeptOutcome.TheVariants.{Of}

@@ -14,11 +14,11 @@ use Rattle.command_words.specs.Words.{RunRequest, MakeRequest, RecoverRequest, R
 use Rattle.kept_run.specs.SourceRun.Requests.{kind_of, source_names}
 use Rattle.kept_run.specs.SourceRun.Input.{Meaning, texts_of, IsAccepted, IsNotAccepted, inputs_of}
 use Rattle.kept_run.specs.SourceRun.Leaves.{most_rows}
-use Rattle.teseo_program.specs.declared.left.Left.{Left}
+use Rattle.kept_run.specs.TeseoProgramDeclared.left.Left.{Left}
 use Rattle.desk_io.specs.declared.sources.ReadStop.TheVariants.{TooLong}
-use Rattle.teseo_program.specs.SourceRunDeclared.fault.SourceFault.{SourceFault}
-use Rattle.teseo_program.specs.declared.outcome.Outcome.TheVariants.{BadWords, NotRead, NotAccepted}
-use Rattle.teseo_program.specs.Laws.{IsTold, AreTold, IsLong, Stands, HasNoFault}
+use Rattle.kept_run.specs.SourceRunDeclared.fault.SourceFault.{SourceFault}
+use Rattle.kept_run.specs.TeseoProgramDeclared.outcome.Outcome.TheVariants.{BadWords, NotRead, NotAccepted}
+use Rattle.kept_run.specs.TeseoProgram.Laws.{IsTold, AreTold, IsLong, Stands, HasNoFault}
 use Rattle.kept_program.specs.declared.outcome.KeptOutcome.{KeptOutcome}
 use Rattle.kept_program.specs.declared.outcome.KeptOutcome.TheVariants.{Of}
 use Rattle.kept_program.specs.Outcomes.{kept_status, IsEnd}

@@ -19,11 +19,11 @@ use Rattle.command_words.specs.Views.{RefusesWords}
 use Rattle.kept_run.specs.SourceRun.Requests.{kind_of}
 use Rattle.kept_run.specs.SourceRun.Input.{Meaning, inputs_of}
 use Rattle.kept_run.specs.SourceRun.Leaves.{leaves_of}
-use Rattle.teseo_program.specs.declared.left.Left.{Left}
-use Rattle.teseo_program.specs.declared.outcome.Outcome.{Outcome}
-use Rattle.teseo_program.specs.declared.outcome.Outcome.TheVariants as ends
-use Rattle.teseo_program.specs.Outcomes.{status_of, outcome_of_words, said_text, text_line, blamed, OnlySays, IsRunOutcome, IsMakeOutcome}
-use Rattle.teseo_program.specs.Prepared.{AreAccepted, Writes}
+use Rattle.kept_run.specs.TeseoProgramDeclared.left.Left.{Left}
+use Rattle.kept_run.specs.TeseoProgramDeclared.outcome.Outcome.{Outcome}
+use Rattle.kept_run.specs.TeseoProgramDeclared.outcome.Outcome.TheVariants as ends
+use Rattle.kept_run.specs.TeseoProgram.Outcomes.{status_of, outcome_of_words, said_text, text_line, blamed, OnlySays, IsRunOutcome, IsMakeOutcome}
+use Rattle.kept_run.specs.TeseoProgram.Prepared.{AreAccepted, Writes}
 use Rattle.kept_program.specs.declared.outcome.KeptOutcome.{KeptOutcome}
 use Rattle.kept_program.specs.declared.outcome.KeptOutcome.TheVariants.{Of, NotMade, NotKept, NotAJournal, NotRecovered}
 

@@ -15,8 +15,8 @@ use Rattle.command_words.specs.Words.{RunRequest, RecoverRequest}
 use Rattle.kept_run.specs.SourceRun.Requests.{kind_of}
 use Rattle.kept_run.specs.SourceRun.Input.{Meaning}
 use Rattle.kept_run.specs.SourceRun.Leaves.{leaves_of}
-use Rattle.teseo_program.specs.declared.prepare.Prepared.{Prepared}
-use Rattle.teseo_program.specs.Prepared.{IsUnprepared, AreAccepted, IsMadeOf, IsPreparedOf}
+use Rattle.kept_run.specs.TeseoProgramDeclared.prepare.Prepared.{Prepared}
+use Rattle.kept_run.specs.TeseoProgram.Prepared.{IsUnprepared, AreAccepted, IsMadeOf, IsPreparedOf}
 use Rattle.kept_program.specs.declared.outcome.KeptOutcome.{KeptOutcome}
 use Rattle.kept_program.specs.declared.outcome.KeptOutcome.TheVariants.{Of, NotMade, NotKept, NotAJournal, NotRecovered}
 use Rattle.kept_program.specs.Outcomes.{KeepsSome, HasStopped}

@@ -1,4 +1,3 @@
 //! What crates above name of crates that they don't list.
 
-pub use kept_run::below::{Names, read_schedule, read_script};
-pub use teseo_program::{Left, Outcome, end_with};
+pub use kept_run::below::{Left, Names, Outcome, end_with, read_schedule, read_script};

@@ -6,7 +6,7 @@ ghost use Rattle.std.specs.Prelude.{◌≡◌};
 
 use journal_recovery::below::RecoverRefusal;
 use kept_run::KeptRefusal;
-use teseo_program::Outcome;
+use kept_run::below::Outcome;
 
 /// How a call ends, each with its exit status and what is said.
 ///

@@ -9,7 +9,7 @@ ghost use Rattle.command_words.specs.Views.{run_request};
 ghost use Rattle.kept_run.specs.SourceRun.Requests.{IsAsked, kind_of};
 ghost use Rattle.kept_run.specs.SourceRun.Input.{Texts, IsAccepted};
 ghost use Rattle.kept_run.specs.SourceRun.Parsing.{meaning_of, AreRunnable};
-ghost use Rattle.teseo_program.specs.Prepared.{NamesAreApart};
+ghost use Rattle.kept_run.specs.TeseoProgram.Prepared.{NamesAreApart};
 ghost use Rattle.kept_program.specs.Outcomes.{KeepsSome};
 ghost use Rattle.kept_program.specs.Prepared.{IsKeptPrepared, IsKeptMade, IsKeptStop, IsUnkept};
 
@@ -18,11 +18,13 @@ use command_words::RunWords;
 use desk_io::Desk;
 use journal_disk::Disk;
 use journal_recovery::below::DiskFault;
-use kept_run::below::{Input, Keeper, files_are_loadable, kind_of, leaves_of, load_is_legal};
+use kept_run::below::{
+    Input, Keeper, Left, Prepared, files_are_loadable, is_full, kind_of, leaves_of, load_is_legal,
+    outputs_of, read_input, summary_of,
+};
 use kept_run::{KeptRefusal, run_scripts_kept};
 use std::alloc::Global;
 use std::thread::Threads;
-use teseo_program::{Left, Prepared, is_full, outputs_of, read_input, summary_of};
 
 /// Reads and parses the sources, makes the journal file, runs the scripts, and makes all texts. Creates nothing else.
 pub fn prepare_kept<R: Threads + Sync, D: Desk, K: Disk>(

@@ -9,7 +9,7 @@ ghost use Rattle.command_words.specs.Views.{run_request};
 ghost use Rattle.kept_run.specs.SourceRun.Requests.{IsAsked, source_names};
 ghost use Rattle.kept_run.specs.RunKeeper.Keeping.{acknowledged_on};
 ghost use Rattle.kept_program.specs.declared.outcome.KeptOutcome.{KeptOutcome};
-ghost use Rattle.teseo_program.specs.Laws.{HasNoFault, Stands};
+ghost use Rattle.kept_run.specs.TeseoProgram.Laws.{HasNoFault, Stands};
 ghost use Rattle.kept_program.specs.Laws.{IsExactStatus};
 ghost use Rattle.kept_program.specs.Outcomes.{kept_status, blamed_by, KeptRunEnds, RunEnds, IsEnd, TellsFaults, CreatesNothing};
 
@@ -20,10 +20,10 @@ use crate::say::say_stop;
 use command_words::{ProgramWords, RunWords, read_words};
 use desk_io::{Desk, Gate};
 use journal_disk::Disk;
+use kept_run::below::{Left, Outcome, blamed_source, hand_out, make_files, run, write_and_say};
 use std::alloc::Global;
 use std::sync::Wait;
 use std::thread::Threads;
-use teseo_program::{Left, Outcome, blamed_source, hand_out, make_files, run, write_and_say};
 
 /// Runs `teseo` on the words after its name, and answers the exit status. After a run whose outputs were all written,
 /// `left` is what its store leaves; else it stays as it is. The disk is used where the words name a journal file.

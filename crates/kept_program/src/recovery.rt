@@ -6,7 +6,7 @@ ghost use Rattle.std.specs.Prelude.{IfOk, IfErr, OnOk};
 ghost use Rattle.journal_disk.specs.Disk.{FaultsStand};
 ghost use Rattle.journal_recovery.specs.JournalFile.Recovering.{IsRefused};
 ghost use Rattle.command_words.specs.Views.{recover_request};
-ghost use Rattle.teseo_program.specs.Prepared.{NamesAreApart};
+ghost use Rattle.kept_run.specs.TeseoProgram.Prepared.{NamesAreApart};
 ghost use Rattle.kept_program.specs.Outcomes.{RecoverEnds};
 ghost use Rattle.kept_program.specs.Prepared.{IsRecovered};
 
@@ -18,8 +18,8 @@ use items::Items;
 use journal_disk::Disk;
 use journal_recovery::below::RecoverRefusal;
 use journal_recovery::recover_texts;
+use kept_run::below::{Left, Prepared, output_of, write_and_say};
 use std::alloc::Global;
-use teseo_program::{Left, Prepared, output_of, write_and_say};
 
 /// Reads a journal file, and writes the text of its journal.
 pub fn recover<D: Desk, K: Disk>(

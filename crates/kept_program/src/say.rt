@@ -3,11 +3,11 @@
 //! 1. Names are lent by the words, and texts said in pieces, so it takes no memory: it may have run out.
 
 ghost use Rattle.kept_program.specs.Outcomes.{stop_text};
-ghost use Rattle.teseo_program.specs.Outcomes.{OnlySays};
+ghost use Rattle.kept_run.specs.TeseoProgram.Outcomes.{OnlySays};
 
 use crate::outcome::KeptOutcome;
 use desk_io::Desk;
-use teseo_program::{say_line, say_outcome};
+use kept_run::below::{say_line, say_outcome};
 
 /// Says why no output was written, by the name of the source that is blamed, if one is, and that of the journal file.
 /// Takes no memory.

@@ -21,13 +21,13 @@ use Rattle.run_keeper.specs.declared.keeper.KeepRefusal.TheVariants as keeps
 use Rattle.run_keeper.specs.Keeping.{IsKept, AreAcknowledged, acknowledged_on, KeepsSoFar, StopsSoFar}
 use Rattle.run_keeper.specs.Refusals.{Stops}
 use Rattle.run_keeper.proofs.KeptLemmas.{acknowledged_longer}
-use Rattle.source_run.specs.declared.input.Input.{Input}
-use Rattle.source_run.specs.declared.run.SteppedRun.{SteppedRun}
-use Rattle.source_run.specs.declared.ran.Ran.TheVariants.{Stepped}
-use Rattle.source_run.specs.Input.{inputs_of}
-use Rattle.source_run.specs.Parsing.{meaning_of}
-use Rattle.source_run.specs.Running.{stepped_outputs, HasCounts, IsRefusedLoad}
-use Rattle.source_run.proofs.RunLemmas.{left_by_run}
+use Rattle.teseo_program.specs.SourceRunDeclared.input.Input.{Input}
+use Rattle.teseo_program.specs.SourceRunDeclared.run.SteppedRun.{SteppedRun}
+use Rattle.teseo_program.specs.SourceRunDeclared.ran.Ran.TheVariants.{Stepped}
+use Rattle.teseo_program.specs.Input.{inputs_of}
+use Rattle.teseo_program.specs.Parsing.{meaning_of}
+use Rattle.teseo_program.specs.Running.{stepped_outputs, HasCounts, IsRefusedLoad}
+use Rattle.teseo_program.proofs.SourceRun.RunLemmas.{left_by_run}
 use Rattle.kept_run.specs.Refusals.{of_load, of_keep, IsRefusedKept}
 use Rattle.kept_run.specs.Running.{HasRun}
 

@@ -1,3 +1,4 @@
 pub mod KeptLemmas
 pub mod RunKeeper
 pub mod SourceRun
+pub mod TeseoProgram

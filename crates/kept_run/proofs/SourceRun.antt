@@ -1,3 +1,3 @@
 -- Modules of source_run that crates above name.
-pub use Rattle.source_run.proofs.RequestLemmas
-pub use Rattle.source_run.proofs.RunLemmas
+pub use Rattle.teseo_program.proofs.SourceRun.RequestLemmas
+pub use Rattle.teseo_program.proofs.SourceRun.RunLemmas

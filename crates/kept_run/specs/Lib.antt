@@ -3,3 +3,5 @@ pub mod Running
 pub mod RunKeeper
 pub mod SourceRun
 pub mod SourceRunDeclared
+pub mod TeseoProgram
+pub mod TeseoProgramDeclared

@@ -7,7 +7,7 @@ use Rattle.graphalytics_io.specs.declared.edges.Edge.{Edge}
 use Rattle.journal_disk.specs.Disk.{DiskState, FaultsStand, FaultsRise}
 use Rattle.run_keeper.specs.declared.keeper.KeepRefusal.{KeepRefusal}
 use Rattle.run_keeper.specs.declared.keeper.KeepRefusal.TheVariants as keeps
-use Rattle.source_run.specs.Running.{IsRefusedLoad}
+use Rattle.teseo_program.specs.Running.{IsRefusedLoad}
 use Rattle.kept_run.specs.declared.refusal.KeptRefusal.{KeptRefusal}
 use Rattle.kept_run.specs.declared.refusal.KeptRefusal.TheVariants.{Full, NoMemory, DiskFault}
 

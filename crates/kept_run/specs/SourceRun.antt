@@ -1,6 +1,6 @@
 -- Modules of source_run that crates above name.
-pub use Rattle.source_run.specs.Input
-pub use Rattle.source_run.specs.Leaves
-pub use Rattle.source_run.specs.Parsing
-pub use Rattle.source_run.specs.Requests
-pub use Rattle.source_run.specs.Running
+pub use Rattle.teseo_program.specs.Input
+pub use Rattle.teseo_program.specs.Leaves
+pub use Rattle.teseo_program.specs.Parsing
+pub use Rattle.teseo_program.specs.Requests
+pub use Rattle.teseo_program.specs.Running

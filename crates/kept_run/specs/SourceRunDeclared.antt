@@ -1,2 +1,3 @@
 -- Modules of source_run that crates above name.
-pub use Rattle.source_run.specs.declared.ran
+pub use Rattle.teseo_program.specs.SourceRunDeclared.fault
+pub use Rattle.teseo_program.specs.SourceRunDeclared.ran

@@ -7,9 +7,9 @@ ghost use Rattle.graph_model.specs.declared.limits.TheConstants.{MAX_LEAVES};
 ghost use Rattle.run_model.specs.Inputs.{AreInputs};
 ghost use Rattle.journal_disk.specs.Disk.{FaultsStand};
 ghost use Rattle.run_keeper.specs.Keeping.{IsKept, acknowledged_on, KeepsOn, KeepsSoFar};
-ghost use Rattle.source_run.specs.Input.{inputs_of};
-ghost use Rattle.source_run.specs.Parsing.{meaning_of};
-ghost use Rattle.source_run.specs.Running.{journal_of};
+ghost use Rattle.teseo_program.specs.Input.{inputs_of};
+ghost use Rattle.teseo_program.specs.Parsing.{meaning_of};
+ghost use Rattle.teseo_program.specs.Running.{journal_of};
 ghost use Rattle.kept_run.specs.Refusals.{IsRefusedKept};
 ghost use Rattle.kept_run.specs.Running.{HasRun};
 
@@ -18,9 +18,9 @@ use graph_model::Kind;
 use journal_disk::Disk;
 use run_keeper::{Keeper, run_kept};
 use run_model::stepped_runs_are_runs;
-use source_run::{Input, Ran, RunResult, config_of, jobs_of, load_graph, new_engine};
 use std::alloc::Global;
 use std::thread::Threads;
+use teseo_program::below::{Input, Ran, RunResult, config_of, jobs_of, load_graph, new_engine};
 
 /// Loads the graph, and runs the scripts on it by their turns. The commits of the load and of the turns are kept by a
 /// keeper whose file is new.

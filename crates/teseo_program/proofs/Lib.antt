@@ -10,3 +10,4 @@ pub mod OutcomeLemmas
 pub mod RoomLawLemmas
 pub mod NamedLemmas
 pub mod EndLemmas
+pub mod SourceRun

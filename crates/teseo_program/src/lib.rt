@@ -5,6 +5,7 @@
 //! 3. What is said is said last, piece by piece, so that saying it takes no memory.
 #![tactic(auto)]
 
+pub mod below;
 mod laws;
 mod left;
 mod make;

@@ -6,7 +6,7 @@ use Rattle.kept_run.proofs.SourceRun.RequestLemmas.{stated_leaves}
 use Rattle.kept_run.proofs.SourceRun.RunLemmas.{files_fit, handed_on}
 use Rattle.kept_run.specs.RunKeeper.Keeping.{IsKept, acknowledged_on}
 use Rattle.kept_run.proofs.RunKeeper.KeptLemmas.{on_err}
-use Rattle.teseo_program.proofs.PreparedLemmas.{are_inputs, job_count, are_printable, are_apart}
+use Rattle.kept_run.proofs.TeseoProgram.PreparedLemmas.{are_inputs, job_count, are_printable, are_apart}
 use Rattle.kept_program.specs.Prepared.{IsKeptStop}
 use Rattle.kept_program.proofs.RunLemmas.{kept_made, kept_stop, kept_some, kept_whole}
 use Rattle.kept_program.proofs.prepare.make_kept.Goals as goal

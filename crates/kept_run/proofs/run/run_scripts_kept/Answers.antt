@@ -1,14 +1,14 @@
 use Rattle.std.proofs.Common.{◌≤◌, ◌-◌, ◌^◌, length, sym, ◌∙◌, ap, subst, refl, false}
 use Rattle.std.specs.Prelude.{min, slice_get}
 use Rattle.graph_model.specs.Loading.{IsNew}
-use Rattle.source_run.specs.declared.run.SteppedRun.{SteppedRun}
-use Rattle.source_run.specs.Input.{inputs_of}
-use Rattle.source_run.specs.Parsing.{meaning_of}
-use Rattle.source_run.specs.Running.{IsConfig}
+use Rattle.teseo_program.specs.SourceRunDeclared.run.SteppedRun.{SteppedRun}
+use Rattle.teseo_program.specs.Input.{inputs_of}
+use Rattle.teseo_program.specs.Parsing.{meaning_of}
+use Rattle.teseo_program.specs.Running.{IsConfig}
 use Rattle.run_keeper.proofs.KeptLemmas.{on_err}
 use Rattle.kept_run.specs.Refusals.{of_load, of_keep, IsRefusedKept}
 use Rattle.kept_run.proofs.KeptLemmas.{has_run, nothing_lost, kept_of_kind, still_of_kind, load_refused, keep_refused}
-use Rattle.source_run.proofs.RunLemmas.{handed_on, is_new, loadable, refused_load, started, ended, closed_as, kind_as, leaves_are, none_served, counts_of, all_at, new_jobs_count}
+use Rattle.teseo_program.proofs.SourceRun.RunLemmas.{handed_on, is_new, loadable, refused_load, started, ended, closed_as, kind_as, leaves_are, none_served, counts_of, all_at, new_jobs_count}
 use Rattle.kept_run.proofs.run.run_scripts_kept.Goals as goal
 
 pub run_kept-requires-clause-new : goal.run_kept-requires-clause-new
