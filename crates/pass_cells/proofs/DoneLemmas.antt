@@ -150,11 +150,11 @@ module _ (ts : List TakenCell) (t u : TakenCell) (key : Key) (place : ℕ) (is :
       (reserving.spare_there ts t u key place is there has kept same spare four)
 
   pub reserve_keeps : IsSameSegment t.held.value u.held.value → t.held.value.spare ≤ u.held.value.spare
-      → u.held.cell ≡ t.held.cell → u.words_changed ≡ t.words_changed
+      → u.held.cell ≡ t.held.cell → u.held.changed ≡ t.held.changed → u.words_changed ≡ t.words_changed
       → KeepCells ts (slice_set ts place u)
-  reserve_keeps same spare cell marks =
+  reserve_keeps same spare cell stays marks =
       subst (KeepCells ts) (sym (set_at ts key place u is))
-      (reserving.keeps ts t u key place is there has kept same spare cell marks)
+      (reserving.keeps ts t u key place is there has kept same spare cell stays marks)
 
   module _ (change : RowChange) (by : TxnName) (sound : IsSegment t.held.value) (sound' : IsSegment u.held.value)
       (may : MayChange change by key t.held.value)
@@ -164,11 +164,11 @@ module _ (ts : List TakenCell) (t u : TakenCell) (key : Key) (place : ℕ) (is :
     change_done = subst (λ l. Changes change by (held_rows ts) (held_rows l) key) (sym (set_at ts key place u is))
         (changing.changes change by ts t u key place is there has kept sound sound' may step spare)
 
-    pub change_keeps : u.held.cell ≡ t.held.cell → u.words_changed ≡ (changes_words change || t.words_changed)
+    pub change_keeps : u.held.cell ≡ t.held.cell → u.held.changed ≡ true → u.words_changed ≡ (changes_words change || t.words_changed)
         → KeepCells ts (slice_set ts place u)
-    change_keeps cell marked =
+    change_keeps cell set marked =
         subst (KeepCells ts) (sym (set_at ts key place u is))
-        (changing.keeps change by ts t u key place is there has kept sound sound' may step spare cell marked)
+        (changing.keeps change by ts t u key place is there has kept sound sound' may step spare cell set marked)
 
 -- ---- values that may be stored
 

@@ -131,13 +131,14 @@ module _ (ts : List TakenCell) (t u : TakenCell) (key : Key) (place : ℕ) (is :
     | inr h ↦ never (same_key key key) (key_self key) h.1
   ]
 
-  pub keeps : u.held.cell ≡ t.held.cell → u.words_changed ≡ t.words_changed → KeepCells ts us
-  keeps cell marks = kept_others key u ts t place is there (record {
+  pub keeps : u.held.cell ≡ t.held.cell → u.held.changed ≡ t.held.changed → u.words_changed ≡ t.words_changed → KeepCells ts us
+  keeps cell stays marks = kept_others key u ts t place is there (record {
     cell = cell;
     rows = kept;
     low = same.low;
     high = same.high;
     sound = same_sound t.held.value u.held.value same;
+    unmarked = λ e. (sym stays ∙ e, same);
     same = λ e. (sym marks ∙ e, ap (map word_row) same.rows);
   })
 

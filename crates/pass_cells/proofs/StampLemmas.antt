@@ -119,14 +119,15 @@ module _ (ts : List TakenCell) (t u : TakenCell) (key : Key) (place : ℕ) (is :
       omega (arith, more)
 
   pub stamps_keep : IsSegment t.held.value → IsSegment u.held.value → u.held.cell ≡ t.held.cell
-      → u.words_changed ≡ t.words_changed → KeepCells ts (slice_set ts place u)
-  stamps_keep was sound cell marked =
+      → u.held.changed ≡ true → u.words_changed ≡ t.words_changed → KeepCells ts (slice_set ts place u)
+  stamps_keep was sound cell set marked =
       subst (KeepCells ts) (sym (set_at ts key place u is)) (kept_others key u ts t place is there (record {
         cell = cell;
         rows = kept;
         low = step.low;
         high = step.high;
         sound = λ s. sound;
+        unmarked = λ e. never u.held.changed set e;
         same = λ e. (sym marked ∙ e, stamped_words t.held.value u.held.value key by n was step);
       }))
 

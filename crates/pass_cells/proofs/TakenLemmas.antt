@@ -104,12 +104,13 @@ module _ (change : RowChange) (by : TxnName) (ts : List TakenCell) (t u : TakenC
           (λ q e. row_stands change by t.held.value u.held.value key sound sound' step may put)
           (λ q c e f. never (same_key q key) f e) key (key_self key)
 
-  pub keeps : u.held.cell ≡ t.held.cell → u.words_changed ≡ (changes_words change || t.words_changed) → KeepCells ts us
-  keeps cell marked = kept_others key u ts t place is there (record {
+  pub keeps : u.held.cell ≡ t.held.cell → u.held.changed ≡ true → u.words_changed ≡ (changes_words change || t.words_changed) → KeepCells ts us
+  keeps cell set marked = kept_others key u ts t place is there (record {
     cell = cell;
     rows = kept;
     low = step.low;
     high = step.high;
     sound = λ s. sound';
+    unmarked = λ e. never u.held.changed set e;
     same = quiet_words change by t.held.value u.held.value key sound step may t.words_changed u.words_changed marked;
   })

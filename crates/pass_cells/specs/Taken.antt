@@ -6,7 +6,7 @@ use Rattle.graph_model.specs.declared.limits.TheConstants.{SEGMENT_ROWS}
 use Rattle.graph_model.specs.declared.row.Key.{Key}
 use Rattle.graph_model.specs.Rows.{first_key, is_below}
 use Rattle.row_writes.specs.VersionSegment.Resting.{word_rows}
-use Rattle.row_writes.specs.VersionSegment.Rows.{VersionedRows, IsSegment, has_row, versions_at}
+use Rattle.row_writes.specs.VersionSegment.Rows.{VersionedRows, IsSameSegment, IsSegment, has_row, versions_at}
 use Rattle.row_writes.specs.VersionSegmentDeclared.change.RowChange.{RowChange}
 use Rattle.row_writes.specs.VersionSegmentDeclared.change.RowChange.TheVariants.{Write, Undo, Touch, Untouch}
 use Rattle.row_writes.specs.Held.{HeldRows}
@@ -58,14 +58,16 @@ changes_words Undo = true
 changes_words (Touch earlier) = false
 changes_words Untouch = true
 
--- It is the same cell, between the same fence keys, and a segment if it was one. Where its words aren't said to be
--- changed, they weren't before, and each row has the word that it had.
+-- It is the same cell, between the same fence keys, and a segment if it was one. Where its value isn't said to be
+-- changed, it wasn't before, and its rows are as they were; and so of its words.
 pub record KeepsCell (old new : TakenCell) : Type 0 where
   pub cell : new.held.cell ≡ old.held.cell
   pub rows : new.rows ≡ old.rows
   pub low : new.held.value.low ≡ old.held.value.low
   pub high : new.held.value.high ≡ old.held.value.high
   pub sound : IsSegment old.held.value → IsSegment new.held.value
+  pub unmarked : new.held.changed ≡ false
+      → (old.held.changed ≡ false) × IsSameSegment old.held.value new.held.value
   pub same : new.words_changed ≡ false
       → (old.words_changed ≡ false) × (word_rows new.held.value ≡ word_rows old.held.value)
 
@@ -87,6 +89,7 @@ keeps_one t = record {
   low = refl;
   high = refl;
   sound = λ s. s;
+  unmarked = λ e. (e, record { low = refl; high = refl; rows = refl });
   same = λ e. (e, refl);
 }
 
@@ -101,6 +104,16 @@ keeps_two t u v one two = record {
   low = two.low ∙ one.low;
   high = two.high ∙ one.high;
   sound = λ s. two.sound (one.sound s);
+  unmarked = λ e.
+      let second = two.unmarked e in
+      let first = one.unmarked second.0 in (
+        first.0,
+        record {
+          low = second.1.low ∙ first.1.low;
+          high = second.1.high ∙ first.1.high;
+          rows = second.1.rows ∙ first.1.rows;
+        },
+      );
   same = λ e.
       let second = two.same e in
       let first = one.same second.0 in (

@@ -175,6 +175,7 @@ kept_moves z v (t ∷ ts) (n ∷ ns) (u ∷ us) known put same sound = (
     sound = subst IsSegment (sym put.0.value) sound.0;
     small = subst HasSmallWeights (sym put.0.value)
         (subst (λ l. HasSmallWeights (record n { rows = l })) (sym same.0.rows) known.0.small);
+    unmarked = λ e. (sym put.0.value_mark ∙ e, subst (IsSameSegment t.held.value) (sym put.0.value) same.0);
     same = λ e. (sym put.0.mark ∙ e, subst (IsSameSegment t.held.value) (sym put.0.value) same.0);
   },
   kept_moves z v ts ns us known.1 put.1 same.1 sound.1,

@@ -83,6 +83,7 @@ put_twice [] [] [] ns us one two = two
 put_twice (t ∷ ts) (s ∷ ss) (m ∷ ms) (n ∷ ns) (u ∷ us) one two = (
   record {
     cell = two.0.cell ∙ one.0.cell;
+    value_mark = two.0.value_mark ∙ one.0.value_mark;
     mark = two.0.mark ∙ one.0.mark;
     rows = two.0.rows ∙ one.0.rows;
     value = two.0.value;
@@ -119,6 +120,7 @@ same_moves t m n put sound small is = record {
   cell = put.cell;
   sound = subst IsSegment (sym put.value) sound;
   small = subst HasSmallWeights (sym put.value) small;
+  unmarked = λ e. (sym put.value_mark ∙ e, same_segment t.held.value m.held.value (put.value ∙ is));
   same = λ e. (sym put.mark ∙ e, same_segment t.held.value m.held.value (put.value ∙ is));
 }
 
@@ -128,10 +130,11 @@ marked_moves t m u n put marked sound small = record {
   cell = marked.cell ∙ put.cell;
   sound = subst IsSegment (sym (marked.value ∙ put.value)) sound;
   small = subst HasSmallWeights (sym (marked.value ∙ put.value)) small;
+  unmarked = λ e. clash (sym marked.value_mark ∙ e);
   same = λ e. clash (sym marked.mark ∙ e);
 }
   where
-    clash : true ≡ false → (t.words_changed ≡ false) × IsSameSegment t.held.value u.held.value
+    clash : {P : Type 0} → true ≡ false → P
     clash e = cc
 
 all_same : (ts : List TakenCell) (ns : List VersionedRows) (ms : List TakenCell) → HavePut ts ns ms

@@ -9,9 +9,10 @@ use Rattle.pass_leaves.specs.PassCellsDeclared.taken.TakenCell.{TakenCell}
 abbrev pub values_of : List TakenCell → List VersionedRows
 values_of ts = map {A = TakenCell} (λ t. t.held.value) ts
 
--- it is the same cell with the same mark, and has these contents
+-- it is the same cell with the same marks, and has these contents
 pub record HasPut (old : TakenCell) (s : VersionedRows) (new : TakenCell) : Type 0 where
   pub cell : new.held.cell ≡ old.held.cell
+  pub value_mark : new.held.changed ≡ old.held.changed
   pub mark : new.words_changed ≡ old.words_changed
   pub rows : new.rows ≡ old.rows
   pub value : new.held.value ≡ s
@@ -30,6 +31,7 @@ HavePut (t ∷ ts) (s ∷ ss) [] = ⊥
 -- it is the same cell with the same contents, and is marked as changed
 pub record IsMarked (old new : TakenCell) : Type 0 where
   pub cell : new.held.cell ≡ old.held.cell
+  pub value_mark : new.held.changed ≡ true
   pub mark : new.words_changed ≡ true
   pub value : new.held.value ≡ old.held.value
 
@@ -43,12 +45,13 @@ AreMarked (t ∷ ts) (u ∷ us) zero zero = (u ∷ us) ≡ t ∷ ts
 
 -- ---- what a move leaves of cells
 
--- It is the same cell, with contents that may be packed. Where its words aren't said to be changed they weren't before,
--- and it has the contents that it had.
+-- It is the same cell, with contents that may be packed. Where its value isn't said to be changed, or its words aren't,
+-- neither were they before, and it has the contents that it had.
 pub record MovesCell (old new : TakenCell) : Type 0 where
   pub cell : new.held.cell ≡ old.held.cell
   pub sound : IsSegment new.held.value
   pub small : HasSmallWeights new.held.value
+  pub unmarked : new.held.changed ≡ false → (old.held.changed ≡ false) × IsSameSegment old.held.value new.held.value
   pub same : new.words_changed ≡ false → (old.words_changed ≡ false) × IsSameSegment old.held.value new.held.value
 
 abbrev pub MoveCells : List TakenCell → List TakenCell → Type 0

@@ -36,6 +36,7 @@ module _ (stamps : TxnName → Option ℕ) (horizon : ℕ) where
     low = is.pruned.low;
     high = is.pruned.high;
     sound = λ _. is.sound;
+    unmarked = λ e. marked u.held.changed is.marked e;
     same = λ e. marked u.words_changed is.changed e;
   }
     where

@@ -8,10 +8,11 @@ use Rattle.pass_cells.specs.StoreRuleDeclared.store.Pass.{Pass}
 use Rattle.pass_cells.specs.declared.taken.TakenCell.{TakenCell}
 use Rattle.pass_cells.specs.Taken.{held_rows}
 
--- a cell is pruned, and its words are said to be changed
+-- a cell is pruned, and its value and its words are said to be changed
 pub record IsPrunedCell (stamps : TxnName → Option ℕ) (horizon : ℕ) (old new : TakenCell) : Type 0 where
   pub cell : new.held.cell ≡ old.held.cell
   pub rows : new.rows ≡ old.rows
+  pub marked : new.held.changed ≡ true
   pub changed : new.words_changed ≡ true
   pub pruned : PrunesRows stamps horizon old.held.value new.held.value
   pub sound : IsSegment new.held.value

@@ -3,9 +3,9 @@ use Rattle.std.proofs.Common.{◌≡◌, inl, inr, ℕ, sym, ◌∙◌, subst}
 use Rattle.std.specs.Prelude.{Option, Some, None, IsSome, Result, Ok, Err, OnErr, OnOk}
 use Rattle.graph_model.specs.AccountSteps.{ReadsBy, view_of}
 use Rattle.graph_model.specs.Graph.{Graph}
-use Rattle.optimistic_read.specs.StoreRuleDeclared.store.Store.{Store}
-use Rattle.shared_store.specs.declared.pass.Pass.{Pass}
-use Rattle.shared_store.specs.Passes.{IsIdle, IsOpen, KeepsOpen, account_of, view_in}
+use Rattle.reader_parts.specs.StoreRuleDeclared.store.Store.{Store}
+use Rattle.reader_parts.specs.SharedStoreDeclared.pass.Pass.{Pass}
+use Rattle.reader_parts.specs.SharedStore.Passes.{IsIdle, IsOpen, KeepsOpen, account_of, view_in}
 use Rattle.rebalance_service.specs.Ready.{HasSeenLegal, IsReady}
 use Rattle.rebalance_service.proofs.PropLemmas.{is_ready}
 use Rattle.rebalance_service.proofs.ReadyLemmas.{idle_here, open_here, start_there}

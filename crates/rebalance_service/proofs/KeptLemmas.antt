@@ -9,30 +9,30 @@ use Rattle.graph_model.specs.declared.row.Key.{Key}
 use Rattle.graph_model.specs.declared.row.Row.{Row}
 use Rattle.graph_model.specs.Rows.{rows}
 use Rattle.graph_model.proofs.AccountLemmas.{read_keeps}
-use Rattle.optimistic_read.specs.RuleModel.Sight.{PinState}
-use Rattle.optimistic_read.specs.StoreRelation.Passes.{PassState, number_of}
-use Rattle.optimistic_read.specs.StoreRelation.Passes.{account_of as state_account}
-use Rattle.optimistic_read.specs.StoreRelation.Steps.{filled_up}
-use Rattle.optimistic_read.specs.StoreRuleDeclared.store.Pass.{Pass as Seats}
-use Rattle.optimistic_read.specs.StoreRuleDeclared.store.Store.{Store}
-use Rattle.optimistic_read.specs.PassSteps.Passes.{HasOpenTxn, HoldsNone, IsPassOf, pin_of, state_of}
+use Rattle.reader_parts.specs.RuleModel.Sight.{PinState}
+use Rattle.reader_parts.specs.StoreRelation.Passes.{PassState, number_of}
+use Rattle.reader_parts.specs.StoreRelation.Passes.{account_of as state_account}
+use Rattle.reader_parts.specs.StoreRelation.Steps.{filled_up}
+use Rattle.reader_parts.specs.StoreRuleDeclared.store.Pass.{Pass as Seats}
+use Rattle.reader_parts.specs.StoreRuleDeclared.store.Store.{Store}
+use Rattle.reader_parts.specs.PassSteps.Passes.{HasOpenTxn, HoldsNone, IsPassOf, pin_of, state_of}
 use Rattle.pass_room.specs.PassSweeps.Sweeping.{GoesOn}
 use Rattle.pass_room.specs.PassCells.Holding.{KeepsPass}
 use Rattle.pass_room.specs.PassCellsDeclared.own.PassCells.{PassCells}
 use Rattle.pass_room.proofs.PassSweeps.GoingLemmas.{account_goes_on, idle_goes_on, open_goes_on}
 use Rattle.pass_room.proofs.PassWrites.HandLemmas.{keeps_state}
-use Rattle.optimistic_read.proofs.StoreRelation.ListLemmas.{prefix_all}
+use Rattle.reader_parts.proofs.StoreRelation.ListLemmas.{prefix_all}
 use Rattle.pass_room.specs.Making.{state_after}
 use Rattle.pass_room.specs.declared.made.NoRoom.{NoRoom}
 use Rattle.pass_room.specs.declared.made.NoRoom.TheVariants.{Full, NoMemory}
 use Rattle.pass_room.specs.declared.made.RoomMade.{RoomMade}
-use Rattle.shared_store.specs.declared.pass.Pass.{Pass}
-use Rattle.optimistic_read.specs.Runs.{EndsRun}
+use Rattle.reader_parts.specs.SharedStoreDeclared.pass.Pass.{Pass}
+use Rattle.reader_parts.specs.OptimisticRead.Runs.{EndsRun}
 use Rattle.pass_scans.specs.Packed.{IsRunTo, view_seen}
 use Rattle.pass_scans.specs.declared.run.PackedRun.{PackedRun}
 use Rattle.pass_scans.specs.PassSteps.Asking.{IsSnapshotOf}
 use Rattle.pass_scans.specs.PassSweeps.Pruning.{FindsWords}
-use Rattle.shared_store.specs.Passes.{IsIdle, IsOpen, KeepsOpen, account_of, view_in}
+use Rattle.reader_parts.specs.SharedStore.Passes.{IsIdle, IsOpen, KeepsOpen, account_of, view_in}
 use Rattle.rebalance_service.specs.Ready.{IsReady, KeepsRest}
 
 -- ---- room was made

@@ -6,3 +6,6 @@ pub mod ScanLemmas
 pub mod KeptLemmas
 pub mod SendLemmas
 pub mod SharedStore
+pub mod PartLemmas
+pub mod SpareLemmas
+pub mod SyncLemmas

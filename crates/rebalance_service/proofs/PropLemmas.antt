@@ -19,26 +19,27 @@ use Rattle.graph_model.specs.contracts.journal.Commit as commit
 use Rattle.graph_model.specs.contracts.journal.TxnName as name
 use Rattle.graph_model.specs.contracts.refusal.Refusal as refusal
 use Rattle.graph_model.specs.contracts.row.Key as key
+use Rattle.graph_model.specs.contracts.write.Kind as kind
 use Rattle.graph_model.specs.contracts.write.Write as write
-use Rattle.graph_model.specs.Account.{Account, IsOpenTxn, IsValid}
+use Rattle.graph_model.specs.Account.{Account, Sighting, IsOpenTxn, IsValid}
 use Rattle.graph_model.specs.Graph.{Graph, apply}
 use Rattle.graph_model.specs.Legal.{IsLegal}
 use Rattle.graph_model.specs.Refused.{AllAllowed, IsWithinLimits}
 use Rattle.epoch_reclaim.specs.declared.sweep.Sweep.{Sweep}
 use Rattle.epoch_reclaim.specs.contracts.sweep.Sweep as sweep
-use Rattle.optimistic_read.specs.StoreRelationDeclared.stage.Stage.{Stage}
-use Rattle.optimistic_read.specs.StoreRelationContracts.stage.Stage as stage
-use Rattle.optimistic_read.specs.StoreRelation.Passes.{PassState}
-use Rattle.optimistic_read.specs.StoreRelation.Readers.{ReaderState}
-use Rattle.optimistic_read.specs.RuleModel.Sight.{PinState}
-use Rattle.optimistic_read.specs.StoreRuleDeclared.slot.Room.{Room}
-use Rattle.optimistic_read.specs.StoreRuleContracts.slot.Room as room
-use Rattle.optimistic_read.specs.StoreRuleDeclared.store.Pass.{Pass as Seats}
-use Rattle.optimistic_read.specs.StoreRuleDeclared.store.Store.{Store}
-use Rattle.optimistic_read.specs.StoreRuleContracts.store.Store as stores
-use Rattle.optimistic_read.specs.PassSteps.Passes.{IsIdlePass, IsOpenPass, IsPassOf}
-use Rattle.shared_store.specs.declared.pass.Pass.{Pass}
-use Rattle.shared_store.specs.Passes.{IsIdle, IsOpen}
+use Rattle.reader_parts.specs.StoreRelationDeclared.stage.Stage.{Stage}
+use Rattle.reader_parts.specs.StoreRelationContracts.stage.Stage as stage
+use Rattle.reader_parts.specs.StoreRelation.Passes.{PassState}
+use Rattle.reader_parts.specs.StoreRelation.Readers.{ReaderState}
+use Rattle.reader_parts.specs.RuleModel.Sight.{PinState}
+use Rattle.reader_parts.specs.StoreRuleDeclared.slot.Room.{Room}
+use Rattle.reader_parts.specs.StoreRuleContracts.slot.Room as room
+use Rattle.reader_parts.specs.StoreRuleDeclared.store.Pass.{Pass as Seats}
+use Rattle.reader_parts.specs.StoreRuleDeclared.store.Store.{Store}
+use Rattle.reader_parts.specs.StoreRuleContracts.store.Store as stores
+use Rattle.reader_parts.specs.PassSteps.Passes.{IsIdlePass, IsOpenPass, IsPassOf}
+use Rattle.reader_parts.specs.SharedStoreDeclared.pass.Pass.{Pass}
+use Rattle.reader_parts.specs.SharedStore.Passes.{IsIdle, IsOpen}
 use Rattle.rebalance_service.specs.Ready.{IsReady}
 use Rattle.rebalance_service.proofs.ReadyLemmas.{start_none, start_there}
 
@@ -58,6 +59,15 @@ key_set = Coded-set key.the_row.coded
 
 write_set : IsSet Write
 write_set = Coded-set write.the_row.coded
+
+kind_set : IsSet Kind
+kind_set = Coded-set kind.the_row.coded
+
+sighting_set : IsSet Sighting
+sighting_set = hlevel (props, name_set, write_set)
+
+pub account_set : IsSet Account
+account_set = hlevel (props, kind_set, commit_set, write_set, sighting_set)
 
 sweep_set : IsSet Sweep
 sweep_set = Coded-set sweep.the_row.coded

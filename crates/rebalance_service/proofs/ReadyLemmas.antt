@@ -1,12 +1,12 @@
 -- A pass between two calls of its worker: its account tells whether it has a transaction.
 use Rattle.std.proofs.Common.{◌≡◌, inl, inr, ℕ, sym, ◌∙◌, ap, subst, cond}
 use Rattle.std.specs.Prelude.{Option, Some, None, IsSome}
-use Rattle.optimistic_read.specs.StoreRelationDeclared.stage.Stage.{Stage}
-use Rattle.optimistic_read.specs.StoreRelation.Passes.{is_active}
-use Rattle.optimistic_read.specs.StoreRuleDeclared.store.Store.{Store}
-use Rattle.optimistic_read.specs.PassSteps.Passes.{state_of}
-use Rattle.shared_store.specs.declared.pass.Pass.{Pass}
-use Rattle.shared_store.specs.Passes.{IsIdle, IsOpen, account_of}
+use Rattle.reader_parts.specs.StoreRelationDeclared.stage.Stage.{Stage}
+use Rattle.reader_parts.specs.StoreRelation.Passes.{is_active}
+use Rattle.reader_parts.specs.StoreRuleDeclared.store.Store.{Store}
+use Rattle.reader_parts.specs.PassSteps.Passes.{state_of}
+use Rattle.reader_parts.specs.SharedStoreDeclared.pass.Pass.{Pass}
+use Rattle.reader_parts.specs.SharedStore.Passes.{IsIdle, IsOpen, account_of}
 use Rattle.rebalance_service.specs.Ready.{IsReady}
 
 -- an open transaction has its start

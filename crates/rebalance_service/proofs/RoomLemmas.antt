@@ -8,16 +8,16 @@ use Rattle.graph_model.specs.declared.write.Kind.TheVariants.{Directed, Undirect
 use Rattle.graph_model.specs.Effects.{same_key}
 use Rattle.graph_model.specs.Refused.{IsWithinLimits}
 use Rattle.graph_model.specs.Rows.{arc_key, end_key, is_below, vertex_key}
-use Rattle.optimistic_read.specs.StoreRelation.Keys.{has_key}
-use Rattle.shared_store.specs.RowWrites.Written.{of_edge, rows_of, written_keys}
-use Rattle.shared_store.proofs.RowWrites.KeyLemmas.{below_end, key_eq}
+use Rattle.reader_parts.specs.StoreRelation.Keys.{has_key}
+use Rattle.reader_parts.specs.RowWrites.Written.{of_edge, rows_of, written_keys}
+use Rattle.reader_parts.proofs.RowWrites.KeyLemmas.{below_end, key_eq}
 use Rattle.graph_model.specs.Account.{Account}
 use Rattle.graph_model.specs.AccountSteps.{GoesOn, WritesBy}
 use Rattle.graph_model.specs.Inserted.{inserts}
 use Rattle.graph_model.specs.declared.refusal.Refusal.TheVariants as refusals
 use Rattle.graph_model.specs.declared.write.Write.{Write}
 use Rattle.graph_model.specs.declared.write.Write.TheVariants.{AddVertex, DropVertex, AddEdge, SetEdge, DropEdge}
-use Rattle.shared_store.specs.Writes.{IsAllowedBy}
+use Rattle.reader_parts.specs.SharedStore.Writes.{IsAllowedBy}
 
 -- all is as this account says
 pub goes_on : (old new : Account) → new ≡ old → GoesOn old old new

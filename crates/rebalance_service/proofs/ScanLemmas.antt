@@ -12,13 +12,13 @@ use Rattle.graph_model.proofs.KeyLemmas.{tied_keys}
 use Rattle.graph_model.proofs.RowLemmas.{ranges_adjoin}
 use Rattle.edge_scan.specs.Steps.{IsUnderWay, end_of}
 use Rattle.edge_scan.proofs.StepLemmas.{no_key_is_left, steps_are_a_scan}
-use Rattle.optimistic_read.specs.declared.tried.TriedRun.{TriedRun}
-use Rattle.optimistic_read.specs.declared.tried.TriedRun.TheVariants.{Rows, Chained}
-use Rattle.optimistic_read.specs.Runs.{EndsRun, IsRun, IsRunUpTo}
-use Rattle.optimistic_read.specs.StoreRuleDeclared.store.Store.{Store}
+use Rattle.reader_parts.specs.OptimisticReadDeclared.tried.TriedRun.{TriedRun}
+use Rattle.reader_parts.specs.OptimisticReadDeclared.tried.TriedRun.TheVariants.{Rows, Chained}
+use Rattle.reader_parts.specs.OptimisticRead.Runs.{EndsRun, IsRun, IsRunUpTo}
+use Rattle.reader_parts.specs.StoreRuleDeclared.store.Store.{Store}
 use Rattle.pass_scans.specs.declared.run.PackedRun.{PackedRun}
-use Rattle.shared_store.specs.declared.pass.Pass.{Pass}
-use Rattle.shared_store.specs.Passes.{KeepsOpen, view_in}
+use Rattle.reader_parts.specs.SharedStoreDeclared.pass.Pass.{Pass}
+use Rattle.reader_parts.specs.SharedStore.Passes.{KeepsOpen, view_in}
 
 -- an end that isn't behind the last key is where a step of the scan ends
 pub step_end : (end : Key) (cursor : Cursor) → is_below cursor.until end ≡ false → end_of end cursor ≡ end

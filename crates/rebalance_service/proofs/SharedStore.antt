@@ -1,2 +1,2 @@
 -- Modules of shared_store that crates above name.
-pub use Rattle.shared_store.proofs.SendLemmas
+pub use Rattle.reader_parts.proofs.SharedStore.SendLemmas

@@ -2,6 +2,7 @@ pub mod Ready
 pub mod Room
 pub mod Turns
 pub mod Scanned
+pub mod Spare
 pub mod PassSteps
 pub mod RuleModel
 pub mod SharedStore

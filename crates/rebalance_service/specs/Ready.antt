@@ -2,9 +2,9 @@
 use Rattle.std.specs.Prelude.{◌≡◌, ◌⊎◌}
 use Rattle.graph_model.specs.Account.{Account}
 use Rattle.graph_model.specs.Legal.{IsLegal}
-use Rattle.optimistic_read.specs.StoreRuleDeclared.store.Store.{Store}
-use Rattle.shared_store.specs.declared.pass.Pass.{Pass}
-use Rattle.shared_store.specs.Passes.{IsIdle, IsOpen}
+use Rattle.reader_parts.specs.StoreRuleDeclared.store.Store.{Store}
+use Rattle.reader_parts.specs.SharedStoreDeclared.pass.Pass.{Pass}
+use Rattle.reader_parts.specs.SharedStore.Passes.{IsIdle, IsOpen}
 
 -- it has no transaction, or an open one; and it holds no cell either way
 abbrev pub IsReady : Store → Pass → Type 0

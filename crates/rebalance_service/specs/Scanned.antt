@@ -3,8 +3,8 @@ use Rattle.std.specs.Prelude.{◌≡◌, List}
 use Rattle.graph_model.specs.declared.row.Key.{Key}
 use Rattle.graph_model.specs.declared.row.Row.{Row}
 use Rattle.graph_model.specs.Graph.{Graph}
-use Rattle.optimistic_read.specs.declared.tried.TriedRun.{TriedRun}
-use Rattle.optimistic_read.specs.Runs.{IsRun}
+use Rattle.reader_parts.specs.OptimisticReadDeclared.tried.TriedRun.{TriedRun}
+use Rattle.reader_parts.specs.OptimisticRead.Runs.{IsRun}
 
 -- nothing: the buffer is as it was
 abbrev pub ReadsNone : TriedRun → Type 0

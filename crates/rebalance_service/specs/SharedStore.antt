@@ -1,5 +1,5 @@
 -- Modules of shared_store that crates above name.
-pub use Rattle.shared_store.specs.Ends
-pub use Rattle.shared_store.specs.Loading
-pub use Rattle.shared_store.specs.Passes
-pub use Rattle.shared_store.specs.Totals
+pub use Rattle.reader_parts.specs.SharedStore.Ends
+pub use Rattle.reader_parts.specs.SharedStore.Loading
+pub use Rattle.reader_parts.specs.SharedStore.Passes
+pub use Rattle.reader_parts.specs.SharedStore.Totals

@@ -1,2 +1,2 @@
 -- Modules of shared_store that crates above name.
-pub use Rattle.shared_store.specs.contracts.pass
+pub use Rattle.reader_parts.specs.SharedStoreContracts.pass

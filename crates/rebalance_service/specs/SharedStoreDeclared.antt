@@ -1,3 +1,3 @@
 -- Modules of shared_store that crates above name.
-pub use Rattle.shared_store.specs.declared.load
-pub use Rattle.shared_store.specs.declared.pass
+pub use Rattle.reader_parts.specs.SharedStoreDeclared.load
+pub use Rattle.reader_parts.specs.SharedStoreDeclared.pass

@@ -7,13 +7,13 @@ ghost use Rattle.graph_model.specs.declared.limits.TheConstants.{MAX_ID};
 ghost use Rattle.graph_model.specs.AccountSteps.{AbortsBy, BeginsBy, CommitsBy, ReadsBy, view_of};
 ghost use Rattle.graph_model.specs.Graph.{has_vertex, weight_of};
 ghost use Rattle.graph_model.specs.Scans.{ScansBy};
-ghost use Rattle.shared_store.specs.Passes.{account_of};
+ghost use Rattle.reader_parts.specs.SharedStore.Passes.{account_of};
 ghost use Rattle.rebalance_service.specs.Ready.{HasSeenLegal, IsReady};
 
 use crate::scan_place::{ScanPlace, settle_met};
 use crate::{reads, scans};
 use graph_model::{BeginRefusal, Begun, Cursor, Rows64};
-use shared_store::{Pass, Store};
+use reader_parts::below::{self, Pass, Store};
 use std::sync::Wait;
 
 /// Begins the next transaction of a pass that has none.
@@ -24,7 +24,7 @@ pub(crate) fn begin(rt: &impl Wait, store: &Store, pass: &mut Pass) -> Result<Be
     ensures legal { HasSeenLegal (account_of store.now pass.new) }
     ensures begins { BeginsBy (account_of store.now pass.old) result (account_of store.now pass.new) }
 {
-    shared_store::begin(rt, store, pass)
+    below::begin(rt, store, pass)
 }
 
 /// Whether the open transaction sees a vertex.
@@ -86,7 +86,7 @@ pub(crate) fn commit(rt: &impl Wait, store: &Store, pass: &mut Pass) -> Option<u
     ensures legal { HasSeenLegal (account_of store.now pass.new) }
     ensures commits { CommitsBy (account_of store.now pass.old) result (account_of store.now pass.new) }
 {
-    shared_store::commit(rt, store, pass)
+    below::commit(rt, store, pass)
 }
 
 /// Ends the open transaction and takes its writes back.
@@ -97,5 +97,5 @@ pub(crate) fn abort(rt: &impl Wait, store: &Store, pass: &mut Pass)
     ensures legal { HasSeenLegal (account_of store.now pass.new) }
     ensures aborts { AbortsBy (account_of store.now pass.old) (account_of store.now pass.new) }
 {
-    shared_store::abort(rt, store, pass);
+    below::abort(rt, store, pass);
 }

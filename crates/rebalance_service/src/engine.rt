@@ -5,7 +5,7 @@
 ghost use Rattle.std.specs.Prelude.{◌≡◌};
 ghost use Rattle.graph_model.specs.AccountSteps.{AbortsBy, BeginsBy, CommitsBy, ReadsBy, WritesBy};
 ghost use Rattle.graph_model.specs.OwnerCalls.{one_more};
-ghost use Rattle.shared_store.specs.Passes.{account_of};
+ghost use Rattle.reader_parts.specs.SharedStore.Passes.{account_of};
 ghost use Rattle.rebalance_service.specs.Ready.{HasSeenLegal};
 
 use crate::calls;

@@ -5,12 +5,17 @@
 //! 3. Turns of the service change no view. A turn takes a leaf only where words that are loaded with no latch don't
 //!    tell that there is nothing to do with it: for a turn of merging that it is full, for a sweep that it had no
 //!    records when it was last swept, and hasn't changed since.
+//! 4. A whole view is scanned by several readers at once, which are made of passes that the workers share.
 #![tactic(auto)]
 
 pub mod below;
 mod calls;
 mod engine;
 mod idle;
+mod idle_passes;
+mod one_list;
+mod parts;
+mod readers;
 mod reads;
 mod room;
 mod scan_place;
@@ -20,4 +25,5 @@ mod settled;
 mod worker;
 mod writes;
 
+pub use idle_passes::IdlePasses;
 pub use worker::{Home, Worker};

@@ -9,14 +9,13 @@ ghost use Rattle.std.specs.Prelude.{◌≡◌, ◌≤◌, ◌<◌, IfSome};
 ghost use Rattle.graph_model.specs.declared.limits.TheConstants.{MAX_ID};
 ghost use Rattle.graph_model.specs.Graph.{has_vertex, weight_of};
 ghost use Rattle.graph_model.specs.Rows.{value_at};
-ghost use Rattle.optimistic_read.specs.RuleModel.Sight.{cells_of};
-ghost use Rattle.shared_store.specs.Passes.{IsOpen, KeepsOpen, view_in};
-ghost use Rattle.optimistic_read.specs.Tried.{IsValueOf};
+ghost use Rattle.reader_parts.specs.RuleModel.Sight.{cells_of};
+ghost use Rattle.reader_parts.specs.SharedStore.Passes.{IsOpen, KeepsOpen, view_in};
+ghost use Rattle.reader_parts.specs.OptimisticRead.Tried.{IsValueOf};
 
 use graph_model::Key;
-use optimistic_read::{Route, Tried, try_key};
 use pass_room::below::CellHints;
-use shared_store::{Pass, Store};
+use reader_parts::below::{self, Pass, Route, Store, Tried, try_key};
 use std::hint::spin_loop;
 use std::sync::Wait;
 
@@ -33,7 +32,7 @@ pub fn has_vertex(rt: &impl Wait, store: &Store, pass: &mut Pass, v: u64) -> boo
 {
     match try_value(store, pass, Key::of_vertex(v)) {
         Some(Tried::Value { weight }) => weight.is_some(),
-        _ => shared_store::has_vertex(rt, store, pass, v),
+        _ => below::has_vertex(rt, store, pass, v),
     }
 }
 
@@ -47,7 +46,7 @@ pub fn weight(rt: &impl Wait, store: &Store, pass: &mut Pass, u: u64, v: u64) ->
 {
     match try_value(store, pass, Key::of_arc(u, v)) {
         Some(Tried::Value { weight }) => weight,
-        _ => shared_store::weight(rt, store, pass, u, v),
+        _ => below::weight(rt, store, pass, u, v),
     }
 }
 

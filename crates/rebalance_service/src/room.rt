@@ -5,12 +5,12 @@
 
 ghost use Rattle.std.specs.Prelude.{◌≡◌, IfErr, IsSome, OnOk};
 ghost use Rattle.pass_room.specs.Making.{MayAskFor};
-ghost use Rattle.shared_store.specs.Passes.{IsOpen, account_of};
+ghost use Rattle.reader_parts.specs.SharedStore.Passes.{IsOpen, account_of};
 ghost use Rattle.rebalance_service.specs.Room.{IsRoomRefusal, account_after};
 
 use graph_model::{Key, NoMemory};
 use pass_room::{NoRoom, PassRoom, make_room};
-use shared_store::{Pass, Store};
+use reader_parts::below::{Pass, Store};
 use std::alloc::Global;
 use std::mem::replace;
 use std::sync::Wait;

@@ -4,11 +4,11 @@
 //! scan finds its rows settled, and takes no latch.
 
 ghost use Rattle.graph_model.specs.AccountSteps.{ReadsBy};
-ghost use Rattle.shared_store.specs.Passes.{account_of};
+ghost use Rattle.reader_parts.specs.SharedStore.Passes.{account_of};
 ghost use Rattle.rebalance_service.specs.Ready.{HasSeenLegal, IsReady};
 
 use pass_scans::settle_swept;
-use shared_store::{Pass, Store};
+use reader_parts::below::{Pass, Store};
 use std::sync::Wait;
 
 /// After a cell that could not be settled so many are left out: another transaction is likely to hold them all back.

@@ -14,18 +14,17 @@ ghost use Rattle.graph_model.specs.Graph.{Graph};
 ghost use Rattle.graph_model.specs.Rows.{is_below, rows};
 ghost use Rattle.graph_model.specs.Scans.{ScansBy};
 ghost use Rattle.edge_scan.specs.Steps.{IsUnderWay};
-ghost use Rattle.optimistic_read.specs.Runs.{EndsRun, IsRun};
-ghost use Rattle.shared_store.specs.Passes.{IsOpen, KeepsOpen, view_in};
+ghost use Rattle.reader_parts.specs.OptimisticRead.Runs.{EndsRun, IsRun};
+ghost use Rattle.reader_parts.specs.SharedStore.Passes.{IsOpen, KeepsOpen, view_in};
 ghost use Rattle.rebalance_service.specs.Scanned.{ReadsNone};
 
 use crate::reads::{TRIES, likely_cell};
 use crate::scan_place::ScanPlace;
 use edge_scan::step;
 use graph_model::{Cursor, Key, Row, Rows64};
-use optimistic_read::{Route, TriedRun, try_run};
 use pass_scans::below::Rows32;
 use pass_scans::{PackedRun, read_packed};
-use shared_store::{Pass, Store};
+use reader_parts::below::{self, Pass, Route, Store, TriedRun, try_run};
 use std::hint::spin_loop;
 use std::sync::Wait;
 
@@ -58,7 +57,7 @@ pub fn scan_step(
     }
     // Where it stays busy the latch is waited for: then the scan goes on for certain.
     *cursor = first;
-    shared_store::scan_step(rt, store, pass, cursor, rows);
+    below::scan_step(rt, store, pass, cursor, rows);
 }
 
 /// Reads the next portion into an empty buffer. Answers false where a try in a cell comes to nothing.
@@ -227,7 +226,7 @@ fn read_held(
         until: end,
         done: false,
     };
-    shared_store::scan_step(rt, store, pass, &mut part, &mut run);
+    below::scan_step(rt, store, pass, &mut part, &mut run);
     // The rest of the cell and what is in the buffer are too much for one portion: then all of it is read by latches.
     if !part.done {
         return false;

@@ -4,7 +4,7 @@
 
 ghost use Rattle.std.specs.Prelude.{◌≡◌};
 ghost use Rattle.graph_model.specs.AccountSteps.{ReadsBy};
-ghost use Rattle.shared_store.specs.Passes.{account_of};
+ghost use Rattle.reader_parts.specs.SharedStore.Passes.{account_of};
 ghost use Rattle.rebalance_service.specs.Ready.{HasSeenLegal, IsReady};
 ghost use Rattle.rebalance_service.specs.Turns.{next_turn};
 
@@ -15,7 +15,7 @@ use graph_model::NoMemory;
 use pass_merges::{MergeKey, MergeTurn, merge_step};
 use pass_room::PassRoom;
 use pass_room::below::{LeafSwept, SweepKey, SweepTurn, sweep_step};
-use shared_store::{Pass, Store};
+use reader_parts::below::{Pass, Store};
 use std::alloc::Global;
 use std::sync::Wait;
 

@@ -5,8 +5,8 @@
 
 use crate::idle::{LikelyLeaf, cells_of, likely_leaf};
 use graph_model::{Key, NoMemory};
-use optimistic_read::below::Store;
 use pass_room::below::{CellHints, LeafSwept};
+use reader_parts::below::Store;
 use std::alloc::Global;
 
 /// Stands for a leaf of which nothing is noted. The sum of even words is even.

@@ -4,35 +4,43 @@
 //!    transaction depends on any of it.
 
 ghost use Rattle.std.specs.Prelude.{◌≡◌, Some};
-ghost use Rattle.optimistic_read.specs.StoreRuleDeclared.store.Store.{Store};
-ghost use Rattle.shared_store.specs.Passes.{IsIdle};
+ghost use Rattle.reader_parts.specs.StoreRuleDeclared.store.Store.{Store};
+ghost use Rattle.reader_parts.specs.SharedStore.Passes.{IsIdle};
 ghost use Rattle.rebalance_service.specs.Ready.{IsReady};
 
+use crate::idle_passes::IdlePasses;
+use crate::readers::{Readers, SharedHandle};
 use crate::scan_place::ScanPlace;
 use crate::serve::ServiceKeys;
 use crate::settled::SettledLeaves;
 use pass_room::PassRoom;
-use shared_store::{Pass, Store};
+use reader_parts::below::{Pass, Store};
 use std::marker::{Brand, PhantomData};
-use std::sync::Wait;
+use std::sync::{Mutex, Wait};
+use std::thread::Threads;
 
-/// Which store a worker is of. Whoever lends workers says so by a pick, and knows when a pass comes back that it is
-/// one of that store.
+/// Which store a worker is of, and which passes beside its own it may scan by. Whoever lends workers says so by a pick,
+/// and knows when a pass comes back that it is one of that store.
 pub trait Home {
-    ghost use Rattle.std.specs.Prelude.{Option};
-    ghost use Rattle.optimistic_read.specs.StoreRuleDeclared.store.Store.{Store};
+    ghost use Rattle.std.specs.Prelude.{List, Option};
+    ghost use Rattle.graph_model.specs.Account.{Account};
+    ghost use Rattle.reader_parts.specs.StoreRuleDeclared.store.Store.{Store};
 
     ghost home: { Option Store };
+
+    ghost spare: { List Account };
 }
 
 impl Home for Brand {
-    ghost use Rattle.std.specs.Prelude.{None};
+    ghost use Rattle.std.specs.Prelude.{None, []};
 
     ghost home = { None };
+
+    ghost spare = { [] };
 }
 
 /// Runs the transactions of one pass, and turns of the service between them.
-pub struct Worker<'a, R: Wait, H: Home> {
+pub struct Worker<'a, R: Wait + SharedHandle, H: Home> {
     pub(crate) rt: &'a R,
     /// The store that its pass is of.
     pub(crate) store: &'a Store,
@@ -48,6 +56,8 @@ pub struct Worker<'a, R: Wait, H: Home> {
     pub(crate) served: u64,
     /// Where its service goes on.
     pub(crate) keys: ServiceKeys,
+    /// By which it scans a whole view, if it has any.
+    pub(crate) readers: Option<Readers<'a, R, H>>,
     of: PhantomData<H>,
     pub ghost ready: { ∥ IsReady store.now pass ∥₁ },
     pub ghost home: { ∥ H.home ≡ Some store.now ∥₁ },
@@ -73,6 +83,7 @@ impl<'a, R: Wait, H: Home> Worker<'a, R, H> {
             place: ScanPlace::nowhere(),
             served: 0,
             keys: ServiceKeys::first(),
+            readers: None,
             of: PhantomData,
         }
     }
@@ -92,6 +103,7 @@ impl<'a, R: Wait, H: Home> Worker<'a, R, H> {
             place: _,
             served: _,
             keys: _,
+            readers: _,
             of: _,
         } = self;
         match room {
@@ -100,5 +112,25 @@ impl<'a, R: Wait, H: Home> Worker<'a, R, H> {
             None => {}
         }
         pass
+    }
+}
+
+impl<'a, R: Threads + Wait + Sync, H: Home> Worker<'a, R, H> {
+    /// The same, which scans a whole view by readers that are made of shared passes.
+    pub fn with_readers(
+        rt: &'a R,
+        store: &'a Store,
+        pass: Pass,
+        pool: &'a Mutex<IdlePasses<H>>,
+    ) -> Worker<'a, R, H>
+        requires idle { IsIdle store.now pass }
+        requires home { H.home ≡ Some store.now }
+        ensures store { result.store.now ≡ store.now }
+        ensures pass { result.pass ≡ pass }
+        ensures served { result.served ≡ 0 }
+    {
+        let mut worker = Worker::new(rt, store, pass);
+        worker.readers = Some(Readers::new(rt, pool));
+        worker
     }
 }

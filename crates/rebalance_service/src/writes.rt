@@ -8,15 +8,15 @@ ghost use Rattle.graph_model.specs.AccountSteps.{WritesBy};
 ghost use Rattle.graph_model.specs.Refused.{IsWithinLimits};
 ghost use Rattle.pass_room.specs.PassWrites.Making.{NeedsRoom};
 ghost use Rattle.pass_room.specs.PassWritesDeclared.making.Written.TheVariants.{NeedRoom};
-ghost use Rattle.shared_store.specs.Passes.{IsOpen, account_of};
-ghost use Rattle.shared_store.specs.Writes.{IsAllowedBy};
+ghost use Rattle.reader_parts.specs.SharedStore.Passes.{IsOpen, account_of};
+ghost use Rattle.reader_parts.specs.SharedStore.Writes.{IsAllowedBy};
 ghost use Rattle.rebalance_service.specs.Ready.{HasSeenLegal, IsReady};
 
 use crate::room::room_for;
 use crate::worker::{Home, Worker};
 use graph_model::{Refusal, Write};
 use pass_room::PassRoom;
-use shared_store::{Pass, RoomNeed, Store, Written};
+use reader_parts::below::{self, Pass, RoomNeed, Store, Written};
 use std::sync::Wait;
 use txn_manager::RoomRefusal;
 
@@ -66,7 +66,7 @@ fn write_with_room(
     ensures writes { WritesBy (account_of store.now pass.old) write result (account_of store.now pass.new) }
 {
     'tries: for _ in rt.forever() {
-        match shared_store::write(rt, store, pass, write) {
+        match below::write(rt, store, pass, write) {
             Ok(Written::Done) => return Ok(()),
             // Nothing has changed, and no cell is in hand: so room may be made, which takes whole leaves.
             Ok(Written::NeedRoom(short)) => {

@@ -43,6 +43,13 @@ pub record IsKept {D : Type 0} (moment : D → ℕ) (may_leave : D → List ℕ 
   pub settled : IsSettled kind commits file (state now) (may_leave now)
   pub acknowledged : AreAcknowledged moment may_leave left_since kind commits (length commits) now
 
+-- where the first commits were kept, the second are kept now
+abbrev pub KeepsOn : {D : Type 0} → (D → ℕ) → (D → List ℕ → Type 0) → (D → ℕ → List ℕ → Type 0) → (D → DiskState)
+    → Kind → List Commit → List Commit → JournalFile → JournalFile → D → D → Type 0
+KeepsOn moment may_leave left_since state kind before after file file' old now =
+    IsKept moment may_leave left_since state kind before file old
+    → IsKept moment may_leave left_since state kind after file' now
+
 -- so many commits are acknowledged on this disk
 abbrev pub acknowledged_on : {D : Type 0} → (D → ℕ) → (D → List ℕ → Type 0) → (D → ℕ → List ℕ → Type 0) → D
     → Kind → List Commit → ℕ → Type 0
@@ -82,3 +89,10 @@ abbrev pub StopsSoFar : (Kind → List Commit → ℕ → Type 0) → Inputs →
 StopsSoFar acknowledged inputs leaves schedule count engine_journal =
     (keeps : KeepsSoFar acknowledged inputs leaves schedule count)
     × (rest : List Commit) × (engine_journal ≡ keeps.journal ++ rest)
+
+-- where these commits of the first journal were kept, the run of this engine has stopped so
+abbrev pub StopsFrom : {D : Type 0} → (D → ℕ) → (D → List ℕ → Type 0) → (D → ℕ → List ℕ → Type 0) → (D → DiskState)
+    → Inputs → List ℕ → List Commit → Core → Core → JournalFile → JournalFile → D → D → Type 0
+StopsFrom moment may_leave left_since state inputs schedule before core core' file file' old now =
+    IsKept moment may_leave left_since state core.kind before file old
+    → StopsSoFar (acknowledged_on moment may_leave left_since now) inputs core.leaves schedule file'.count core'.journal

@@ -8,7 +8,7 @@ ghost use Rattle.graph_model.specs.declared.write.Kind.{Kind};
 ghost use Rattle.graph_model.specs.declared.journal.Commit.{Commit};
 ghost use Rattle.graph_model.specs.Legal.{IsLegal, IsLegalCommit};
 ghost use Rattle.journal_disk.specs.Disk.{FaultsStand, FaultsRise};
-ghost use Rattle.run_keeper.specs.Keeping.{IsKept, AreAcknowledged};
+ghost use Rattle.run_keeper.specs.Keeping.{IsKept, KeepsOn, AreAcknowledged};
 ghost use Rattle.run_keeper.specs.Refusals.{Stops};
 
 use graph_model::{Commit, Kind, NoMemory};
@@ -80,9 +80,8 @@ impl Keeper {
     /// Adds the commits of the journal that the file doesn't have, one after the other.
     pub fn keep<K: Disk>(&mut self, disk: &mut K, journal: &[Commit]) -> Result<(), KeepRefusal>
         ensures kept { OnOk result ((kind : Kind) (commits rest : List Commit) → journal.now ≡ commits ++ rest
-            → IsLegal kind journal.now
-            → IsKept K.moment K.may_leave K.left_since K.state kind commits self.old.file disk.old
-            → IsKept K.moment K.may_leave K.left_since K.state kind journal.now self.new.file disk.new) }
+            → IsLegal kind journal.now → KeepsOn K.moment K.may_leave K.left_since K.state
+            kind commits journal.now self.old.file self.new.file disk.old disk.new) }
         ensures still { OnErr result ((kind : Kind) (commits rest : List Commit) → journal.now ≡ commits ++ rest
             → IsLegal kind journal.now
             → IsKept K.moment K.may_leave K.left_since K.state kind commits self.old.file disk.old
@@ -103,8 +102,8 @@ impl Keeper {
     fn keep_next<K: Disk>(&mut self, disk: &mut K, commit: &Commit) -> Result<(), KeepRefusal>
         ensures kept { OnOk result ((kind : Kind) (journal commits : List Commit)
             → IsLegalCommit kind journal (length commits) commit.now
-            → IsKept K.moment K.may_leave K.left_since K.state kind commits self.old.file disk.old
-            → IsKept K.moment K.may_leave K.left_since K.state kind (commits ++ commit.now ∷ []) self.new.file disk.new) }
+            → KeepsOn K.moment K.may_leave K.left_since K.state
+            kind commits (commits ++ commit.now ∷ []) self.old.file self.new.file disk.old disk.new) }
         ensures still { OnErr result ((kind : Kind) (journal commits : List Commit)
             → IsLegalCommit kind journal (length commits) commit.now
             → IsKept K.moment K.may_leave K.left_since K.state kind commits self.old.file disk.old

@@ -8,7 +8,7 @@ ghost use Rattle.graph_model.specs.declared.journal.Commit.{Commit};
 ghost use Rattle.journal_disk.specs.Disk.{FaultsStand};
 ghost use Rattle.run_model.specs.Inputs.{Inputs};
 ghost use Rattle.job_runner.specs.Runs.{AreNew, AreUnderWay, Turns, Goes, Ends};
-ghost use Rattle.run_keeper.specs.Keeping.{IsKept, acknowledged_on, TurnStops, StopsSoFar};
+ghost use Rattle.run_keeper.specs.Keeping.{IsKept, acknowledged_on, KeepsOn, TurnStops, StopsFrom};
 ghost use Rattle.run_keeper.specs.Refusals.{Stops};
 
 use crate::engine::JournalEngine;
@@ -32,14 +32,12 @@ pub fn run_kept<R: Threads + Sync, E: JournalEngine, K: Disk>(
     ensures ends { OnOk result ((inputs : Inputs) → AreNew inputs (E.core engine.old) jobs.old
         → Ends inputs schedule.now (E.core engine.old) (E.core engine.new) jobs.new) }
     ensures kept { OnOk result ((commits rest : List Commit) → (E.core engine.old).journal ≡ commits ++ rest
-        → IsKept K.moment K.may_leave K.left_since K.state (E.core engine.old).kind commits keeper.old.file disk.old
-        → IsKept K.moment K.may_leave K.left_since K.state (E.core engine.old).kind (E.core engine.new).journal
-        keeper.new.file disk.new) }
+        → KeepsOn K.moment K.may_leave K.left_since K.state (E.core engine.old).kind
+        commits (E.core engine.new).journal keeper.old.file keeper.new.file disk.old disk.new) }
     ensures still { OnErr result ((inputs : Inputs) (commits rest : List Commit)
         → AreNew inputs (E.core engine.old) jobs.old → (E.core engine.old).journal ≡ commits ++ rest
-        → IsKept K.moment K.may_leave K.left_since K.state (E.core engine.old).kind commits keeper.old.file disk.old
-        → StopsSoFar (acknowledged_on K.moment K.may_leave K.left_since disk.new) inputs (E.core engine.old).leaves
-        schedule.now keeper.new.file.count (E.core engine.new).journal) }
+        → StopsFrom K.moment K.may_leave K.left_since K.state inputs schedule.now
+        commits (E.core engine.old) (E.core engine.new) keeper.old.file keeper.new.file disk.old disk.new) }
     ensures ok { OnOk result (FaultsStand (K.state disk.old) (K.state disk.new)) }
     ensures refused { IfErr result (Stops (K.state disk.old) (K.state disk.new)) }
 {
@@ -61,15 +59,11 @@ fn take_turns<R: Threads + Sync, E: JournalEngine, K: Disk>(
     requires listed { (i job : ℕ) → slice_get schedule.now i ≡ Some job → job ≤ length jobs.old }
     ensures ends { OnOk result ((inputs : Inputs) → AreNew inputs (E.core engine.old) jobs.old
         → Ends inputs schedule.now (E.core engine.old) (E.core engine.new) jobs.new) }
-    ensures kept { OnOk result (IsKept K.moment K.may_leave K.left_since K.state
-        (E.core engine.old).kind (E.core engine.old).journal keeper.old.file disk.old
-        → IsKept K.moment K.may_leave K.left_since K.state
-        (E.core engine.old).kind (E.core engine.new).journal keeper.new.file disk.new) }
+    ensures kept { OnOk result (KeepsOn K.moment K.may_leave K.left_since K.state (E.core engine.old).kind
+        (E.core engine.old).journal (E.core engine.new).journal keeper.old.file keeper.new.file disk.old disk.new) }
     ensures still { OnErr result ((inputs : Inputs) → AreNew inputs (E.core engine.old) jobs.old
-        → IsKept K.moment K.may_leave K.left_since K.state
-        (E.core engine.old).kind (E.core engine.old).journal keeper.old.file disk.old
-        → StopsSoFar (acknowledged_on K.moment K.may_leave K.left_since disk.new) inputs (E.core engine.old).leaves
-        schedule.now keeper.new.file.count (E.core engine.new).journal) }
+        → StopsFrom K.moment K.may_leave K.left_since K.state inputs schedule.now (E.core engine.old).journal
+        (E.core engine.old) (E.core engine.new) keeper.old.file keeper.new.file disk.old disk.new) }
     ensures ok { OnOk result (FaultsStand (K.state disk.old) (K.state disk.new)) }
     ensures refused { IfErr result (Stops (K.state disk.old) (K.state disk.new)) }
 {
@@ -107,10 +101,8 @@ fn take_kept_turn<R: Threads + Sync, E: JournalEngine, K: Disk>(
     ensures turns { IfOk result (λ ended.
         Turns (E.core engine.old) jobs.old number ended (E.core engine.new) jobs.new) }
     ensures goes { OnOk result (Goes jobs.old number jobs.new) }
-    ensures kept { OnOk result (IsKept K.moment K.may_leave K.left_since K.state
-        (E.core engine.old).kind (E.core engine.old).journal keeper.old.file disk.old
-        → IsKept K.moment K.may_leave K.left_since K.state
-        (E.core engine.old).kind (E.core engine.new).journal keeper.new.file disk.new) }
+    ensures kept { OnOk result (KeepsOn K.moment K.may_leave K.left_since K.state (E.core engine.old).kind
+        (E.core engine.old).journal (E.core engine.new).journal keeper.old.file keeper.new.file disk.old disk.new) }
     ensures still { OnErr result (IsKept K.moment K.may_leave K.left_since K.state
         (E.core engine.old).kind (E.core engine.old).journal keeper.old.file disk.old
         → TurnStops (acknowledged_on K.moment K.may_leave K.left_since disk.new (E.core engine.old).kind)

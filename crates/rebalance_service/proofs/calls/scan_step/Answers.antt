@@ -1,7 +1,7 @@
 use Rattle.std.proofs.Common.{subst}
 use Rattle.graph_model.specs.AccountSteps.{ReadsBy}
 use Rattle.graph_model.specs.Scans.{ScansBy}
-use Rattle.shared_store.specs.Passes.{account_of}
+use Rattle.reader_parts.specs.SharedStore.Passes.{account_of}
 use Rattle.rebalance_service.proofs.CallLemmas.{at_start, open_kept, ready_open}
 use Rattle.rebalance_service.proofs.calls.scan_step.Goals as goal
 

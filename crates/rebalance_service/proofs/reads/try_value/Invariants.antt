@@ -1,6 +1,6 @@
 use Rattle.graph_model.specs.Rows.{value_at}
-use Rattle.shared_store.specs.Passes.{KeepsOpen, view_in}
-use Rattle.optimistic_read.specs.Tried.{IsValueOf}
+use Rattle.reader_parts.specs.SharedStore.Passes.{KeepsOpen, view_in}
+use Rattle.reader_parts.specs.OptimisticRead.Tried.{IsValueOf}
 use Rattle.rebalance_service.proofs.reads.try_value.Given as goal
 
 abbrev pub invariant-tries : goal.invariant-tries

@@ -1,5 +1,5 @@
 use Rattle.std.proofs.Common.{refl}
-use Rattle.shared_store.specs.Passes.{account_of}
+use Rattle.reader_parts.specs.SharedStore.Passes.{account_of}
 use Rattle.rebalance_service.proofs.CallLemmas.{legal_ready}
 use Rattle.rebalance_service.proofs.PropLemmas.{is_ready}
 use Rattle.rebalance_service.proofs.RoomLemmas.{goes_on}

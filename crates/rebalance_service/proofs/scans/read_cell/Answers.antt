@@ -1,4 +1,4 @@
-use Rattle.shared_store.specs.Passes.{account_of}
+use Rattle.reader_parts.specs.SharedStore.Passes.{account_of}
 use Rattle.rebalance_service.proofs.KeptLemmas.{found_open, seen_snapshot, seen_run}
 use Rattle.rebalance_service.proofs.scans.read_cell.Goals as goal
 

@@ -1,5 +1,5 @@
 use Rattle.graph_model.proofs.KeyLemmas.{below_up}
-use Rattle.shared_store.specs.Passes.{view_in}
+use Rattle.reader_parts.specs.SharedStore.Passes.{view_in}
 use Rattle.std.proofs.Common.{◌∙◌}
 use Rattle.rebalance_service.proofs.ScanLemmas.{run_there}
 use Rattle.rebalance_service.proofs.scans.read_chained.Goals as goal

@@ -1,6 +1,6 @@
 use Rattle.std.proofs.Common.{◌∙◌}
 use Rattle.std.specs.Prelude.{false}
-use Rattle.shared_store.specs.Passes.{view_in}
+use Rattle.reader_parts.specs.SharedStore.Passes.{view_in}
 use Rattle.rebalance_service.proofs.ScanLemmas.{all_given}
 use Rattle.rebalance_service.proofs.scans.read_held.Goals as goal
 

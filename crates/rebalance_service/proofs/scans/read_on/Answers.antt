@@ -1,7 +1,7 @@
 use Rattle.std.proofs.Common.{◌≡◌, refl, sym, ◌∙◌, subst}
 use Rattle.std.specs.Prelude.{true, false}
 use Rattle.edge_scan.specs.Steps.{IsUnderWay}
-use Rattle.shared_store.specs.Passes.{view_in}
+use Rattle.reader_parts.specs.SharedStore.Passes.{view_in}
 use Rattle.rebalance_service.proofs.ScanLemmas.{chained_there, rows_there, run_taken, same_view}
 use Rattle.rebalance_service.proofs.scans.read_on.Goals as goal
 

@@ -1,6 +1,6 @@
 use Rattle.std.proofs.Common.{◌∙◌, sym, refl}
 use Rattle.edge_scan.proofs.StepLemmas.{steps_are_a_scan}
-use Rattle.shared_store.specs.Passes.{view_in}
+use Rattle.reader_parts.specs.SharedStore.Passes.{view_in}
 use Rattle.rebalance_service.proofs.ScanLemmas.{kept_twice, scan_ends, scan_starts, scanning_on, under_way_on}
 use Rattle.rebalance_service.proofs.scans.read_portion.Goals as goal
 

@@ -1,4 +1,4 @@
-use Rattle.shared_store.specs.Passes.{KeepsOpen}
+use Rattle.reader_parts.specs.SharedStore.Passes.{KeepsOpen}
 use Rattle.rebalance_service.proofs.scans.scan_step.Given as goal
 
 abbrev pub invariant-tries : goal.invariant-tries

@@ -3,7 +3,7 @@ use Rattle.rebalance_service.proofs.CallLemmas.{legal_ready}
 use Rattle.rebalance_service.proofs.KeptLemmas.{ready_hinted}
 use Rattle.rebalance_service.proofs.PropLemmas.{is_ready}
 use Rattle.rebalance_service.proofs.RoomLemmas.{goes_on}
-use Rattle.shared_store.specs.Passes.{account_of}
+use Rattle.reader_parts.specs.SharedStore.Passes.{account_of}
 use Rattle.rebalance_service.proofs.serve.merge.Goals as goal
 
 pub returns-in-Some-clause-legal : goal.returns-in-Some-clause-legal

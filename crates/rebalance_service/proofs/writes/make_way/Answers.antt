@@ -2,7 +2,7 @@ use Rattle.std.proofs.Common.{refl, subst, sym}
 use Rattle.graph_model.specs.declared.row.Key.{Key}
 use Rattle.graph_model.specs.Rows.{end_key, is_below}
 use Rattle.std.specs.Prelude.{◌≡◌, ◌≤◌, true}
-use Rattle.shared_store.specs.Passes.{account_of}
+use Rattle.reader_parts.specs.SharedStore.Passes.{account_of}
 use Rattle.rebalance_service.proofs.RoomLemmas.{full_writes, memory_writes, one_or_two, written_below}
 use Rattle.rebalance_service.proofs.writes.make_way.Goals as goal
 

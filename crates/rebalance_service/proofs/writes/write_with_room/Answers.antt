@@ -3,8 +3,8 @@ use Rattle.std.specs.Prelude.{Ok}
 use Rattle.graph_model.specs.Account.{Account}
 use Rattle.graph_model.specs.AccountSteps.{WritesBy}
 use Rattle.pass_room.specs.PassWritesDeclared.making.Written.{Written}
-use Rattle.shared_store.specs.Passes.{account_of}
-use Rattle.shared_store.specs.Writes.{WritesOver}
+use Rattle.reader_parts.specs.SharedStore.Passes.{account_of}
+use Rattle.reader_parts.specs.SharedStore.Writes.{WritesOver}
 use Rattle.rebalance_service.proofs.RoomLemmas.{writes_after}
 use Rattle.rebalance_service.proofs.writes.write_with_room.Goals as goal
 

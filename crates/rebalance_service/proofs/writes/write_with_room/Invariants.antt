@@ -1,5 +1,5 @@
 use Rattle.std.specs.Prelude.{◌≡◌}
-use Rattle.shared_store.specs.Passes.{IsOpen, account_of}
+use Rattle.reader_parts.specs.SharedStore.Passes.{IsOpen, account_of}
 use Rattle.rebalance_service.proofs.writes.write_with_room.Given as goal
 
 -- the transaction is open still, and its account is as it was

@@ -29,6 +29,6 @@ returns-clause-keeps c =
     (length cells) c.place_of-place.result t refl c.place_of-place.ensures.within c.index_mut-taken.ensures.value in
     record {
       each = stamps_keep cells t _ c.args.key c.place_of-place.result c.place_of-place.ensures.place there c.requires
-          refl c.args.by c.args.number c.stamp.ensures.stamped c.is_segment.ensures c.is_segment-2.ensures refl refl;
+          refl c.args.by c.args.number c.stamp.ensures.stamped c.is_segment.ensures c.is_segment-2.ensures refl refl refl;
       room = refl;
     }

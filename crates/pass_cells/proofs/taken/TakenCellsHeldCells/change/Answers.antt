@@ -42,7 +42,7 @@ returns-clause-keeps c =
     record {
       each = change_keeps cells t _ c.args.key c.place_of-place.result c.place_of-place.ensures.place there
           c.requires.held refl c.args.change c.args.by c.is_segment.ensures c.is_segment-2.ensures may
-          c.change.ensures.changed c.change.ensures.spare refl
+          c.change.ensures.changed c.change.ensures.spare refl refl
           c.have_words_changed-taken.ensures;
       room = refl;
     }

@@ -31,6 +31,6 @@ returns-clause-keeps c =
     (length cells) c.place_of-place.result t refl c.place_of-place.ensures.within c.index_mut.ensures.value in
     record {
       each = reserve_keeps cells t _ c.args.key c.place_of-place.result c.place_of-place.ensures.place there
-          c.requires refl c.reserve.ensures.kept c.reserve.ensures.spare refl refl;
+          c.requires refl c.reserve.ensures.kept c.reserve.ensures.spare refl refl refl;
       room = refl;
     }
