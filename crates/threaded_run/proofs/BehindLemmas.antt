@@ -1,7 +1,6 @@
 -- The passes behind those of the scripts: they come back as they were lent out, and have made nothing.
-use Rattle.std.proofs.Common.{◌≡◌, ℕ, zero, suc, ◌+◌, ◌-◌, ◌<◌, ◌≤◌, List, [], ◌∷◌, ◌++◌, length, map, take, drop, refl, sym, ◌∙◌, ap, subst, arith, length-append}
+use Rattle.std.proofs.Common.{◌≡◌, ℕ, zero, suc, ◌+◌, ◌-◌, ◌≤◌, List, [], ◌∷◌, ◌++◌, length, map, take, drop, refl, sym, ◌∙◌, ap, subst, arith, length-append}
 use Rattle.std.proofs.lemmas.List.{length-map, length-drop, length-take-le}
-use Rattle.std.proofs.lemmas.Option.{slice_get_within}
 use Rattle.std.specs.Prelude.{Some, slice_get, Result, Ok, Err, IfOk, OnOk}
 use Rattle.std.specs.List.{AllByRecursion}
 use Rattle.graph_model.specs.Account.{Account}
@@ -10,14 +9,13 @@ use Rattle.run_model.specs.declared.command.Command.{Command}
 use Rattle.run_model.specs.Inputs.{Inputs}
 use Rattle.run_model.proofs.ListLemmas.{all_from_places, there}
 use Rattle.thread_runner.specs.JobRunner.Progress.{Progress}
-use Rattle.shared_runs.specs.Closing.{HasLoaded, HasMadeNothing, HasRunOn, HaveRunOn, OthersMadeNothing}
-use Rattle.txn_manager.specs.declared.config.Config.{Config}
+use Rattle.shared_runs.specs.Closing.{HaveRunOn, OthersMadeNothing}
 use Rattle.rebalance_service.specs.StoreRelation.Passes.{fresh_pass}
 use Rattle.rebalance_service.specs.StoreRelation.Passes.{account_of as state_account}
 use Rattle.rebalance_service.specs.StoreRuleDeclared.store.Store.{Store}
 use Rattle.rebalance_service.specs.SharedStoreDeclared.pass.Pass.{Pass}
 use Rattle.rebalance_service.specs.SharedStore.Ends.{AreIdle}
-use Rattle.rebalance_service.specs.SharedStore.Loading.{AreLoaded, first_state}
+use Rattle.rebalance_service.specs.SharedStore.Loading.{first_state}
 use Rattle.rebalance_service.specs.SharedStore.Passes.{IsIdle, account_of}
 use Rattle.rebalance_service.specs.Spare.{AreSpare}
 use Rattle.threaded_run.specs.Seats.{AreIdleFrom, CanRunBefore, CanRunOn}

@@ -1,4 +1,4 @@
-use Rattle.std.proofs.Common.{◌≡◌, ◌+◌, ◌++◌, arith, ap, ◌∙◌, sym, subst, length, map, take, drop}
+use Rattle.std.proofs.Common.{◌+◌, ap, ◌∙◌, sym, subst, length, map, take, drop}
 use Rattle.rebalance_service.specs.SharedStore.Passes.{account_of}
 use Rattle.rebalance_service.specs.Spare.{AreSpare}
 use Rattle.shared_runs.specs.Closing.{HaveRunOn, OthersMadeNothing}
