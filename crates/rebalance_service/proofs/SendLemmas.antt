@@ -15,7 +15,7 @@ use Rattle.reader_parts.proofs.LeafArrayMade.Leaf.TheSendSync as leaf
 use Rattle.pass_room.proofs.PassCellsMade.TakenCell.TheSendSync as cell
 use Rattle.rebalance_service.proofs.scan_place.ScanPlace.TheSendSync as place
 use Rattle.rebalance_service.proofs.serve.ServiceKeys.TheSendSync as keys
-use Rattle.rebalance_service.proofs.settled.SettledLeaves.TheSendSync as settled
+use Rattle.rebalance_service.proofs.sweep_notes.SweepNotes.TheSendSync as notes
 use Rattle.reader_parts.proofs.SharedStore.SendLemmas.{pass_send, slot_send, store_sync}
 use Rattle.pass_merges.specs.PassLeavesContracts.own.PassLeaves as Leaves
 use Rattle.pass_room.specs.contracts.own.PassRoom as Room
@@ -65,7 +65,7 @@ worker_send a R H s h shared =
           (
             option.the_send Room.the_row room_send,
             (
-              settled.the_send,
+              notes.the_send,
               (
                 place.the_send,
                 (

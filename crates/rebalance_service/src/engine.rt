@@ -97,7 +97,7 @@ impl<'a, R: Wait, H: Home> Engine for Worker<'a, R, H> {
             self.store,
             &mut self.pass,
             &mut self.room,
-            &mut self.settled,
+            &mut self.notes,
             &mut self.keys,
         )
     }

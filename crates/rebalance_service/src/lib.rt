@@ -4,7 +4,7 @@
 //! 2. A write that finds no place is tried again as soon as there is room, as one write to whoever asked for it.
 //! 3. Turns of the service change no view. A turn takes a leaf only where words that are loaded with no latch don't
 //!    tell that there is nothing to do with it: for a turn of merging that it is full, for a sweep that it had no
-//!    records when it was last swept, and hasn't changed since.
+//!    records when it was last swept and hasn't changed since, or is being changed, so that its commits see to it.
 //! 4. A whole view is scanned by several readers at once, which are made of passes that the workers share.
 #![tactic(auto)]
 
@@ -21,7 +21,7 @@ mod room;
 mod scan_place;
 mod scans;
 mod serve;
-mod settled;
+mod sweep_notes;
 mod worker;
 mod writes;
 

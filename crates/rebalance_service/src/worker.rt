@@ -12,7 +12,7 @@ use crate::idle_passes::IdlePasses;
 use crate::readers::{Readers, SharedHandle};
 use crate::scan_place::ScanPlace;
 use crate::serve::ServiceKeys;
-use crate::settled::SettledLeaves;
+use crate::sweep_notes::SweepNotes;
 use pass_room::PassRoom;
 use reader_parts::below::{Pass, Store};
 use std::marker::{Brand, PhantomData};
@@ -48,8 +48,8 @@ pub struct Worker<'a, R: Wait + SharedHandle, H: Home> {
     pub(crate) pass: Pass,
     /// Made by the first call that moves rows.
     pub(crate) room: Option<PassRoom>,
-    /// Leaves that a sweep may pass over.
-    pub(crate) settled: SettledLeaves,
+    /// Of leaves that a sweep may pass over.
+    pub(crate) notes: SweepNotes,
     /// Where its scan has come to.
     pub(crate) place: ScanPlace,
     /// How many turns of the service it has taken, up to the last number.
@@ -72,14 +72,14 @@ impl<'a, R: Wait, H: Home> Worker<'a, R, H> {
         ensures pass { result.pass ≡ pass }
         ensures served { result.served ≡ 0 }
     {
-        let settled = SettledLeaves::none(pass.alloc);
+        let notes = SweepNotes::none(pass.alloc);
         Worker {
             rt,
             store,
             pass,
             // A worker that only reads never needs it, and one that writes makes it when a row first finds no place.
             room: None,
-            settled,
+            notes,
             place: ScanPlace::nowhere(),
             served: 0,
             keys: ServiceKeys::first(),
@@ -99,7 +99,7 @@ impl<'a, R: Wait, H: Home> Worker<'a, R, H> {
             store: _,
             pass,
             room,
-            settled: _,
+            notes: _,
             place: _,
             served: _,
             keys: _,
