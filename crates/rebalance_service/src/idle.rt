@@ -5,13 +5,12 @@
 //! loads, where taking the leaf costs nine latches and the rows of eight cells.
 
 ghost use Rattle.std.specs.Prelude.{◌<◌};
-ghost use Rattle.reader_parts.specs.CellsModel.Words.{block_words};
+ghost use Rattle.worker_calls.specs.CellsModel.Words.{block_words};
 
 use density_tree::LOWER_LIMITS;
 use graph_model::{Key, LEAF_SEGMENTS};
-use pass_room::below::CellHints;
-use reader_parts::below::{MERGE_ROWS, Store};
 use std::ops::Range;
+use worker_calls::below::{CellHints, MERGE_ROWS, Store};
 
 /// The word of a block that has the number of its rows.
 const COUNT: u32 = 1;

@@ -9,17 +9,11 @@
 #![tactic(auto)]
 
 pub mod below;
-mod calls;
 mod engine;
 mod idle;
 mod idle_passes;
-mod one_list;
 mod parts;
 mod readers;
-mod reads;
-mod room;
-mod scan_place;
-mod scans;
 mod serve;
 mod sweep_notes;
 mod worker;

@@ -4,20 +4,18 @@
 
 ghost use Rattle.std.specs.Prelude.{◌≡◌};
 ghost use Rattle.graph_model.specs.AccountSteps.{ReadsBy};
-ghost use Rattle.reader_parts.specs.SharedStore.Passes.{account_of};
-ghost use Rattle.rebalance_service.specs.Ready.{HasSeenLegal, IsReady};
+ghost use Rattle.worker_calls.specs.SharedStore.Passes.{account_of};
+ghost use Rattle.worker_calls.specs.Ready.{HasSeenLegal, IsReady};
 ghost use Rattle.rebalance_service.specs.Turns.{next_turn};
 
 use crate::idle::{NextLeaf, beyond_full_leaf};
-use crate::room::has_room;
 use crate::sweep_notes::{FreeLeaf, SweepNotes};
 use graph_model::NoMemory;
 use pass_merges::{MergeKey, MergeTurn, merge_step};
-use pass_room::PassRoom;
-use pass_room::below::{LeafSwept, SweepKey, SweepTurn, sweep_step};
-use reader_parts::below::{Pass, Store};
 use std::alloc::Global;
 use std::sync::Wait;
+use worker_calls::below::{LeafSwept, Pass, PassRoom, Store, SweepKey, SweepTurn, sweep_step};
+use worker_calls::has_room;
 
 /// What a turn of the service does.
 #[derive(Clone, Copy, Debug, PartialEq, Eq)]

@@ -10,9 +10,8 @@
 
 use crate::idle::{LikelyLeaf, NextLeaf, cells_of};
 use graph_model::{Key, NoMemory};
-use pass_room::below::{CellHints, LeafSwept};
-use reader_parts::below::Store;
 use std::alloc::Global;
+use worker_calls::below::{CellHints, LeafSwept, Store};
 
 /// A leaf is swept once the sum of its latch words has grown by so much. That are about sixteen transactions: a write
 /// and its commit hold a cell once each.

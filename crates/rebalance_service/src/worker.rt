@@ -4,27 +4,26 @@
 //!    transaction depends on any of it.
 
 ghost use Rattle.std.specs.Prelude.{◌≡◌, Some};
-ghost use Rattle.reader_parts.specs.StoreRuleDeclared.store.Store.{Store};
-ghost use Rattle.reader_parts.specs.SharedStore.Passes.{IsIdle};
-ghost use Rattle.rebalance_service.specs.Ready.{IsReady};
+ghost use Rattle.worker_calls.specs.StoreRuleDeclared.store.Store.{Store};
+ghost use Rattle.worker_calls.specs.SharedStore.Passes.{IsIdle};
+ghost use Rattle.worker_calls.specs.Ready.{IsReady};
 
 use crate::idle_passes::IdlePasses;
 use crate::readers::{Readers, SharedHandle};
-use crate::scan_place::ScanPlace;
 use crate::serve::ServiceKeys;
 use crate::sweep_notes::SweepNotes;
-use pass_room::PassRoom;
-use reader_parts::below::{Pass, Store};
 use std::marker::{Brand, PhantomData};
 use std::sync::{Mutex, Wait};
 use std::thread::Threads;
+use worker_calls::ScanPlace;
+use worker_calls::below::{Pass, PassRoom, Store};
 
 /// Which store a worker is of, and which passes beside its own it may scan by. Whoever lends workers says so by a pick,
 /// and knows when a pass comes back that it is one of that store.
 pub trait Home {
     ghost use Rattle.std.specs.Prelude.{List, Option};
     ghost use Rattle.graph_model.specs.Account.{Account};
-    ghost use Rattle.reader_parts.specs.StoreRuleDeclared.store.Store.{Store};
+    ghost use Rattle.worker_calls.specs.StoreRuleDeclared.store.Store.{Store};
 
     ghost home: { Option Store };
 
