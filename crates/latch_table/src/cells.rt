@@ -202,7 +202,37 @@ impl<'a, K, V: Slot<K>> Cells<'a, V, K> {
           [],
         ) }
     {
-        let laid = self.put_back(pass, held);
+        self.give_last(pass, held);
+    }
+
+    /// The same of the cell that was taken last, where the pass may hold others, which it keeps.
+    pub fn give_last(&self, pass: &mut LatchSeat<V, K>, held: Held<V>)
+        requires pass { IsPassOf (V.passes self.now.table.now.key) self.now.table.now.key
+            self.now.table.now.table_id pass.old }
+        requires cell { held.cell < self.now.table.now.table_id.words }
+        requires holds { pass.old.me.1 ≡ (held.cell, V.vacant) ∷ rest pass.old.me.1 }
+        requires fits { V.fits self.now.table.now.key held.cell held.value }
+        ensures pass { IsPassOf (V.passes self.now.table.now.key) self.now.table.now.key
+            self.now.table.now.table_id pass.new }
+        ensures released { pass.new.me ≡ (
+          gave pass.old.me.0 held.cell (word_after held.found held.changed),
+          rest pass.old.me.1,
+        ) }
+    {
+        let Held {
+            cell,
+            found,
+            changed,
+            value,
+        } = held;
+        let vacant = self.table.exchange(pass, cell as usize, value);
+        vacant.forget_vacant();
+        // Its slot stays the first one, before those of the others.
+        let laid = Laid {
+            cell,
+            found,
+            changed,
+        };
         self.release(pass, laid);
     }
 

@@ -7,7 +7,6 @@
 //!    packed and given back.
 #![tactic(auto)]
 
-mod ahead;
 pub mod below;
 mod change;
 mod hints;

@@ -84,13 +84,16 @@ known_less z v (t ∷ ts) known = (one t known.0, known_less z v ts known.1)
       count = k.count;
     }
 
-pub putting_all : (store : Store) (old mid : Pass) (leaves : List ℕ) (ts : List TakenCell)
+-- once the index is given back the pass has the latches of the cells alone
+pub putting_all : (store : Store) (old mid : Pass) (latch : Seat StoreSlot (LatchSight Room))
+    (leaves : List ℕ) (ts : List TakenCell)
     (index : Held (Box LeafIndex Global)) → HoldsLeaves store old leaves ts index
-    → OnlyAccount old mid (without_index old.account.me.0) → IsPutting store mid mid ts ts []
-putting_all store old mid leaves ts index holds left =
+    → OnlyAccount old mid (without_index old.account.me.0)
+    → IsPutting store (record mid { latch = latch }) (record mid { latch = latch }) ts ts []
+putting_all store old mid latch leaves ts index holds left =
     let sight : mid.account.me.0 ≡ without_index old.account.me.0 = ap (λ m. m.0) left.account.me in
     record {
-      kept = keeps_itself mid;
+      kept = keeps_itself (record mid { latch = latch });
       latch = refl;
       table = left.account.table ∙ holds.table;
       numbers = refl;

@@ -5,6 +5,7 @@
 
 ghost use Rattle.std.specs.Prelude.{◌≡◌, ◌<◌, ◌≤◌, ◌+◌, ◌*◌, ◌++◌, [], ◌∷◌, length, true, false};
 ghost use Rattle.std.specs.Vec.{vec_capacity};
+ghost use Rattle.atomic_table.specs.Table.{rest};
 ghost use Rattle.latch_table.specs.Latched.{number_of};
 ghost use Rattle.latch_table.specs.Several.{taken_of};
 ghost use Rattle.pass_cells.specs.RuleModel.Sight.{cells_of};
@@ -102,6 +103,19 @@ fn latch_cell(
         Ok(()) => true,
         Err(_) => unreachable!(),
     }
+}
+
+/// Puts the index back, which was taken last, and releases it. The pass keeps the cells.
+pub fn give_index_first(store: &Store, latch: &mut LatchPass, index: Held<StoreSlot>)
+    requires latch { IsLatchOf store.now latch.old }
+    requires out { latch.old.me.1 ≡ (index.cell, slots.Out) ∷ rest latch.old.me.1 }
+    requires index { FitsPlace store.now.accounts.config store.now.accounts.table.shared.table_id index.cell index.value
+        × (index.cell < cells_of store.now.accounts.config + 2) }
+    ensures latch { IsLatchOf store.now latch.new }
+    ensures number { number_of latch.new.me.0 ≡ number_of latch.old.me.0 }
+    ensures cells { latch.new.me.1 ≡ rest latch.old.me.1 }
+{
+    store.cells().give_last(latch, index);
 }
 
 /// Puts the values of all places and of the index, which was taken last, back and releases them.

@@ -1,7 +1,9 @@
 //! How a pass gives leaves and the index back.
 //!
-//! 1. All values are back before the first latch is released, so nobody finds rows that have moved in two cells, or in
-//!    none.
+//! 1. All values of cells are back before the first of their latches is released, so nobody finds rows that have moved
+//!    in two cells, or in none.
+//! 2. The index goes back before the cells are packed, since others wait for it. Whoever is led by it to one of these
+//!    cells finds that held until all have their values.
 
 ghost use Rattle.std.specs.Prelude.{◌≡◌, ◌≤◌, ◌<◌, [], ◌∷◌, length, List, ℕ};
 ghost use Rattle.std.specs.Vec.{vec_capacity};
@@ -11,33 +13,28 @@ ghost use Rattle.pass_cells.specs.StoreRuleDeclared.slot.StoreSlot.TheVariants a
 ghost use Rattle.pass_cells.specs.Holding.{AreFit, HoldsNone, IsLatchOf, KeepsPass};
 ghost use Rattle.pass_leaves.specs.Hand.{HasIndexHeld, HoldsLeaves};
 
-use crate::latch::give_all_places;
+use crate::latch::{give_all_places, give_index_first};
 use crate::own::PassLeaves;
 use crate::take::HeldIndex;
 use crate::unpack::pack_all;
 use latch_table::{Held, Laid};
 use pass_cells::below::{Pass, Store, StoreSlot};
+use pass_cells::give_places;
 
 impl PassLeaves {
-    /// Packs all cells in hand and puts them and the index back, and then releases each. What wasn't changed keeps its
-    /// version. Takes no memory.
+    /// Gives the index back, then packs all cells in hand and puts them back, and then releases each. What wasn't changed
+    /// keeps its version. Takes no memory.
     pub fn put_back(&mut self, store: &Store, pass: &mut Pass, index: HeldIndex)
         requires holds { (leaves : List ℕ) × (length leaves ≤ 2)
             × HoldsLeaves store.now pass.old leaves self.old.cells.items index }
         ensures none { HoldsNone store.now pass.new × (self.new.cells.items ≡ []) }
         ensures kept { KeepsPass pass.old pass.new }
     {
-        // The notes of all that is in hand are laid before the first latch is released: whoever takes one of them next
-        // finds the whole move.
+        // The view knows the whole move by now, and what is packed changes none of the index.
         let index = store.lay_index(pass, index);
+        give_index_first(store, &mut pass.latch, index);
         pack_all(store, pass, &mut self.cells, &mut self.packed);
-        give_all_places(
-            store,
-            &mut pass.latch,
-            index,
-            &mut self.packed,
-            &mut self.laid,
-        );
+        give_places(store, &mut pass.latch, &mut self.packed, &mut self.laid);
     }
 }
 

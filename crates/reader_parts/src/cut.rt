@@ -4,7 +4,6 @@
 
 ghost use Rattle.std.specs.Prelude.{◌≡◌, ◌<◌, true, false, IfOk, length};
 ghost use Rattle.graph_model.specs.Rows.{end_key, first_key, is_below};
-ghost use Rattle.shared_readers.specs.RuleModel.Sight.{cells_of};
 ghost use Rattle.reader_parts.specs.Cuts.{AreEnds};
 
 use graph_model::{Key, LEAF_SEGMENTS, NoMemory};
@@ -64,7 +63,7 @@ fn low_keys(alloc: Global, store: &Store, wanted: usize) -> Result<Vec<Key>, NoM
     let step = step_of(cells as usize / LEAF_SEGMENTS, wanted);
     let mut lows = Vec::new(alloc);
     'leaves: for cell in (0..cells).step_by(step) {
-        if let Some(low) = low_of(store, cell) {
+        if let Some(low) = store.accounts.likely_low(cell) {
             lows.push(low)?;
         }
     }
@@ -80,21 +79,4 @@ fn step_of(leaves: usize, wanted: usize) -> usize
     (leaves / wanted.max(1))
         .max(1)
         .saturating_mul(LEAF_SEGMENTS)
-}
-
-/// The low fence key that a cell's block spells, where that is below the high one. `pass_cells` has the same for its
-/// hints.
-fn low_of(store: &Store, cell: u32) -> Option<Key>
-    requires { cell < cells_of store.now.accounts.config }
-{
-    // These loads need no order: a pair that is half of a change gives a part another size, and no other rows.
-    let low = Key {
-        src: store.accounts.peek_word(cell, 2),
-        second: store.accounts.peek_word(cell, 3),
-    };
-    let high = Key {
-        src: store.accounts.peek_word(cell, 4),
-        second: store.accounts.peek_word(cell, 5),
-    };
-    low.is_below(high).then_some(low)
 }

@@ -7,6 +7,7 @@
 #![tactic(auto)]
 
 mod accounts;
+mod ahead;
 mod blocks;
 mod first;
 mod lines;
