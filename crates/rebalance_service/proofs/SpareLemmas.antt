@@ -1,17 +1,29 @@
--- What is known of shared passes is known in one way alone, so it may be kept beside them.
+-- What is known of a worker's store, and of shared passes, is known in one way alone, so it may be kept beside them.
 use Rattle.std.proofs.Common.{◌≡◌, List, [], ◌∷◌, sym, ◌∙◌, subst}
 use Rattle.std.proofs.Props.{props}
-use Rattle.std.specs.Coded.{×_prop, Unit-prop}
+use Rattle.std.specs.Coded.{×_prop, Coded-set, Unit-prop}
 use Rattle.std.specs.List.{AllByRecursion}
 use Rattle.std.specs.Prelude.{Option, Some, map}
 use mathlib.Core.List.{is_set as List-set}
 use mathlib.Core.Logic.{∥∥₁_elim}
 use Rattle.graph_model.specs.Account.{Account}
+use Rattle.worker_calls.specs.StoreRuleContracts.store.Store as stores
 use Rattle.worker_calls.specs.StoreRuleDeclared.store.Store.{Store}
 use Rattle.worker_calls.specs.SharedStoreDeclared.pass.Pass.{Pass}
 use Rattle.worker_calls.specs.SharedStore.Passes.{IsIdle, account_of}
 use Rattle.rebalance_service.specs.Spare.{AreSpare, AreSpareOf}
 use Rattle.worker_calls.proofs.PropLemmas.{account_set, idle_prop}
+
+-- ---- the store of a worker
+
+store_set : IsSet Store
+store_set = Coded-set stores.the_row.coded
+
+-- HOME, as it was kept
+pub home_there : (home : Option Store) (store : Store) → ∥ home ≡ Some store ∥₁ → home ≡ Some store
+home_there home store kept = ∥∥₁_elim kept (hlevel (props, store_set)) (λ e. e)
+
+-- ---- shared passes
 
 all_prop : {X : Type 0} (P : X → Type 0) → ((x : X) → IsProp (P x)) → (xs : List X) → IsProp (AllByRecursion P xs)
 all_prop P one [] = Unit-prop

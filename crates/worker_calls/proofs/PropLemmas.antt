@@ -36,7 +36,6 @@ use Rattle.reader_parts.specs.StoreRuleDeclared.slot.Room.{Room}
 use Rattle.reader_parts.specs.StoreRuleContracts.slot.Room as room
 use Rattle.reader_parts.specs.StoreRuleDeclared.store.Pass.{Pass as Seats}
 use Rattle.reader_parts.specs.StoreRuleDeclared.store.Store.{Store}
-use Rattle.reader_parts.specs.StoreRuleContracts.store.Store as stores
 use Rattle.reader_parts.specs.PassSteps.Passes.{IsIdlePass, IsOpenPass, IsPassOf}
 use Rattle.reader_parts.specs.SharedStoreDeclared.pass.Pass.{Pass}
 use Rattle.reader_parts.specs.SharedStore.Passes.{IsIdle, IsOpen}
@@ -77,9 +76,6 @@ stage_set = Coded-set stage.the_row.coded
 
 room_set : IsSet Room
 room_set = Coded-set room.the_row.coded
-
-store_set : IsSet Store
-store_set = Coded-set stores.the_row.coded
 
 table_set : IsSet TableId
 table_set = Coded-set table_id_coded
@@ -204,9 +200,3 @@ ready_prop store pass (inr opened) (inl idle) = absurd (apart store pass idle op
 -- READY, as it was kept
 pub is_ready : (store : Store) (pass : Pass) → ∥ IsReady store pass ∥₁ → IsReady store pass
 is_ready store pass kept = ∥∥₁_elim kept (ready_prop store pass) (λ r. r)
-
--- ---- the store of a worker
-
--- HOME, as it was kept
-pub home_there : (home : Option Store) (store : Store) → ∥ home ≡ Some store ∥₁ → home ≡ Some store
-home_there home store kept = ∥∥₁_elim kept (hlevel (props, store_set)) (λ e. e)

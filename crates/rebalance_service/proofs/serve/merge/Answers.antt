@@ -33,12 +33,3 @@ merge_here-requires g c = record {
   ready = ∣ ready_hinted c.args.store.now c.args.pass.now _ refl
       (is_ready c.args.store.now c.args.pass.now c.requires.ready) ∣₁;
 }
-
-pub returns-in-Err-make_room-clause-ready : goal.returns-in-Err-make_room-clause-ready
-returns-in-Err-make_room-clause-ready g c =
-    ∣ ready_hinted c.args.store.now c.args.pass.now _ refl
-    (is_ready c.args.store.now c.args.pass.now c.requires.ready) ∣₁
-
-pub returns-in-Err-make_room-clause-legal : goal.returns-in-Err-make_room-clause-legal
-returns-in-Err-make_room-clause-legal g c =
-    legal_ready c.args.store.now c.args.pass.now (is_ready c.args.store.now c.args.pass.now c.requires.ready)

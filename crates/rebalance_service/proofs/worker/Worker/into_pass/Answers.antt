@@ -1,4 +1,5 @@
-use Rattle.worker_calls.proofs.PropLemmas.{home_there, is_ready}
+use Rattle.rebalance_service.proofs.SpareLemmas.{home_there}
+use Rattle.worker_calls.proofs.PropLemmas.{is_ready}
 use Rattle.rebalance_service.proofs.worker.Worker.into_pass.Goals as goal
 
 pub returns-in-Some-clause-ready : goal.returns-in-Some-clause-ready
