@@ -2,6 +2,8 @@
 //!
 //! 1. No contract says what is noted. Whoever settles such a cell holds it, and asks what is kept of its rows.
 
+ghost use Rattle.std.specs.Prelude.{◌<◌};
+
 use std::marker::Model;
 
 /// So many cells are noted at most.

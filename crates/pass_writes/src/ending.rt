@@ -113,7 +113,7 @@ pub fn stamp_all(
             writes[place],
         );
     }
-    // Those of this commit are not among them: their stamp lies behind the horizon.
+    // Those of this commit are not among them: their stamp comes after the horizon.
     settle_reached(rt, store, pass, sweep, unsettled);
 }
 
