@@ -8,7 +8,7 @@ use Rattle.rebalance_service.specs.StoreRuleDeclared.store.Store.{Store}
 use Rattle.rebalance_service.specs.SharedStoreDeclared.pass.Pass.{Pass}
 use Rattle.rebalance_service.specs.SharedStore.Ends.{AreIdle}
 use Rattle.rebalance_service.specs.SharedStore.Passes.{IsIdle, account_of}
-use Rattle.rebalance_service.proofs.ReadyLemmas.{start_none}
+use Rattle.rebalance_service.proofs.WorkerCalls.ReadyLemmas.{start_none}
 
 -- none has a transaction, and they stand in the order of their numbers, from 0
 pub record AreInOrder (store : Store) (list : List Pass) : Type 0 where

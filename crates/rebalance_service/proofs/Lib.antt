@@ -1,11 +1,5 @@
-pub mod ReadyLemmas
-pub mod RoomLemmas
-pub mod PropLemmas
-pub mod CallLemmas
-pub mod ScanLemmas
-pub mod KeptLemmas
 pub mod SendLemmas
 pub mod SharedStore
-pub mod PartLemmas
 pub mod SpareLemmas
 pub mod SyncLemmas
+pub mod WorkerCalls

@@ -11,15 +11,15 @@ use Rattle.std.proofs.sync.Mutex.TheSendSync as lock
 use Rattle.std.specs.contracts.sync.Mutex as Lock
 use Rattle.latch_table.proofs.cells.Held.TheSendSync as held
 use Rattle.latch_table.proofs.cells.Laid.TheSendSync as laid
-use Rattle.reader_parts.proofs.LeafArrayMade.Leaf.TheSendSync as leaf
-use Rattle.pass_room.proofs.PassCellsMade.TakenCell.TheSendSync as cell
-use Rattle.rebalance_service.proofs.scan_place.ScanPlace.TheSendSync as place
+use Rattle.worker_calls.proofs.LeafArrayMade.Leaf.TheSendSync as leaf
+use Rattle.worker_calls.proofs.PassCellsMade.TakenCell.TheSendSync as cell
+use Rattle.worker_calls.proofs.scan_place.ScanPlace.TheSendSync as place
 use Rattle.rebalance_service.proofs.serve.ServiceKeys.TheSendSync as keys
-use Rattle.rebalance_service.proofs.settled.SettledLeaves.TheSendSync as settled
-use Rattle.reader_parts.proofs.SharedStore.SendLemmas.{pass_send, slot_send, store_sync}
+use Rattle.rebalance_service.proofs.sweep_notes.SweepNotes.TheSendSync as notes
+use Rattle.worker_calls.proofs.SharedStore.SendLemmas.{pass_send, slot_send, store_sync}
 use Rattle.pass_merges.specs.PassLeavesContracts.own.PassLeaves as Leaves
-use Rattle.pass_room.specs.contracts.own.PassRoom as Room
-use Rattle.reader_parts.specs.StoreRuleContracts.store.Store as Store
+use Rattle.worker_calls.specs.PassRoomContracts.own.PassRoom as Room
+use Rattle.worker_calls.specs.StoreRuleContracts.store.Store as Store
 use Rattle.rebalance_service.specs.declared.worker.Home.{Ghosts}
 use Rattle.rebalance_service.specs.declared.readers.SharedHandle.{Ghosts as Handles}
 use Rattle.rebalance_service.specs.contracts.idle_passes.IdlePasses as Idle
@@ -65,7 +65,7 @@ worker_send a R H s h shared =
           (
             option.the_send Room.the_row room_send,
             (
-              settled.the_send,
+              notes.the_send,
               (
                 place.the_send,
                 (

@@ -1,2 +1,2 @@
 -- Modules of shared_store that crates above name.
-pub use Rattle.reader_parts.proofs.SharedStore.SendLemmas
+pub use Rattle.worker_calls.proofs.SharedStore.SendLemmas

@@ -7,11 +7,11 @@ use Rattle.std.specs.Prelude.{Option, Some, map}
 use mathlib.Core.List.{is_set as List-set}
 use mathlib.Core.Logic.{∥∥₁_elim}
 use Rattle.graph_model.specs.Account.{Account}
-use Rattle.reader_parts.specs.StoreRuleDeclared.store.Store.{Store}
-use Rattle.reader_parts.specs.SharedStoreDeclared.pass.Pass.{Pass}
-use Rattle.reader_parts.specs.SharedStore.Passes.{IsIdle, account_of}
+use Rattle.worker_calls.specs.StoreRuleDeclared.store.Store.{Store}
+use Rattle.worker_calls.specs.SharedStoreDeclared.pass.Pass.{Pass}
+use Rattle.worker_calls.specs.SharedStore.Passes.{IsIdle, account_of}
 use Rattle.rebalance_service.specs.Spare.{AreSpare, AreSpareOf}
-use Rattle.rebalance_service.proofs.PropLemmas.{account_set, idle_prop}
+use Rattle.worker_calls.proofs.PropLemmas.{account_set, idle_prop}
 
 all_prop : {X : Type 0} (P : X → Type 0) → ((x : X) → IsProp (P x)) → (xs : List X) → IsProp (AllByRecursion P xs)
 all_prop P one [] = Unit-prop

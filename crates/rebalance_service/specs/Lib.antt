@@ -1,12 +1,10 @@
-pub mod Ready
-pub mod Room
 pub mod Turns
-pub mod Scanned
 pub mod Spare
 pub mod PassSteps
 pub mod RuleModel
 pub mod SharedStore
+pub mod SharedStoreContracts
 pub mod SharedStoreDeclared
 pub mod StoreRelation
 pub mod StoreRuleDeclared
-pub mod SharedStoreContracts
+pub mod WorkerCalls

@@ -1,2 +1,2 @@
 -- Modules of shared_store that crates above name.
-pub use Rattle.reader_parts.specs.SharedStoreContracts.pass
+pub use Rattle.worker_calls.specs.SharedStoreContracts.pass

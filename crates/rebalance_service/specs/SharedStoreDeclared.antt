@@ -1,3 +1,3 @@
 -- Modules of shared_store that crates above name.
-pub use Rattle.reader_parts.specs.SharedStoreDeclared.load
-pub use Rattle.reader_parts.specs.SharedStoreDeclared.pass
+pub use Rattle.worker_calls.specs.SharedStoreDeclared.load
+pub use Rattle.worker_calls.specs.SharedStoreDeclared.pass

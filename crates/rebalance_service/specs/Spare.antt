@@ -2,9 +2,9 @@
 use Rattle.std.specs.Prelude.{◌≡◌, List, map, Option, IfSome}
 use Rattle.std.specs.List.{AllByRecursion}
 use Rattle.graph_model.specs.Account.{Account}
-use Rattle.reader_parts.specs.StoreRuleDeclared.store.Store.{Store}
-use Rattle.reader_parts.specs.SharedStoreDeclared.pass.Pass.{Pass}
-use Rattle.reader_parts.specs.SharedStore.Passes.{IsIdle, account_of}
+use Rattle.worker_calls.specs.StoreRuleDeclared.store.Store.{Store}
+use Rattle.worker_calls.specs.SharedStoreDeclared.pass.Pass.{Pass}
+use Rattle.worker_calls.specs.SharedStore.Passes.{IsIdle, account_of}
 
 -- none has a transaction, and these are their accounts, in their order
 pub record AreSpare (store : Store) (accounts : List Account) (passes : List Pass) : Type 0 where

@@ -1,3 +1,3 @@
 -- Modules of store_relation that crates above name.
-pub use Rattle.reader_parts.specs.StoreRelation.Loads
-pub use Rattle.reader_parts.specs.StoreRelation.Passes
+pub use Rattle.worker_calls.specs.StoreRelation.Loads
+pub use Rattle.worker_calls.specs.StoreRelation.Passes

@@ -1,2 +1,2 @@
 -- Modules of store_rule that crates above name.
-pub use Rattle.reader_parts.specs.StoreRuleDeclared.store
+pub use Rattle.worker_calls.specs.StoreRuleDeclared.store

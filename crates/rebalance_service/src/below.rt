@@ -1,7 +1,7 @@
 //! What crates above name of crates that they don't list.
 
-pub use pass_room::below::{SweepKey, sweep_step};
-pub use reader_parts::below::{
-    Closed, LoadedRefusal, Pass, Passes, Route, Store, Tried, TriedRun, VersionSegment, close,
-    let_go, loaded, loaded_by_threads, meet, new, route, try_has_vertex, try_run,
+pub use worker_calls::below::{
+    Closed, LoadedRefusal, Pass, Passes, Route, Store, SweepKey, Tried, TriedRun, VersionSegment,
+    close, let_go, loaded, loaded_by_threads, meet, new, route, sweep_step, try_has_vertex,
+    try_run,
 };

@@ -5,16 +5,16 @@
 ghost use Rattle.std.specs.Prelude.{◌≡◌};
 ghost use Rattle.graph_model.specs.AccountSteps.{AbortsBy, BeginsBy, CommitsBy, ReadsBy, WritesBy};
 ghost use Rattle.graph_model.specs.OwnerCalls.{one_more};
-ghost use Rattle.reader_parts.specs.SharedStore.Passes.{account_of};
-ghost use Rattle.rebalance_service.specs.Ready.{HasSeenLegal};
+ghost use Rattle.worker_calls.specs.SharedStore.Passes.{account_of};
+ghost use Rattle.worker_calls.specs.Ready.{HasSeenLegal};
 
-use crate::calls;
 use crate::serve::serve;
 use crate::worker::{Home, Worker};
 use graph_model::{
     BeginRefusal, Begun, Cursor, Engine, Kind, NoMemory, Refusal, Rows64, VertexEngine, Write,
 };
 use std::sync::Wait;
+use worker_calls::calls;
 
 impl<'a, R: Wait, H: Home> Engine for Worker<'a, R, H> {
     ghost account = { λ s. account_of s.store.now s.pass };
@@ -97,7 +97,7 @@ impl<'a, R: Wait, H: Home> Engine for Worker<'a, R, H> {
             self.store,
             &mut self.pass,
             &mut self.room,
-            &mut self.settled,
+            &mut self.notes,
             &mut self.keys,
         )
     }

@@ -5,13 +5,12 @@
 //! loads, where taking the leaf costs nine latches and the rows of eight cells.
 
 ghost use Rattle.std.specs.Prelude.{◌<◌};
-ghost use Rattle.reader_parts.specs.CellsModel.Words.{block_words};
+ghost use Rattle.worker_calls.specs.CellsModel.Words.{block_words};
 
 use density_tree::LOWER_LIMITS;
 use graph_model::{Key, LEAF_SEGMENTS};
-use pass_room::below::CellHints;
-use reader_parts::below::{MERGE_ROWS, Store};
 use std::ops::Range;
+use worker_calls::below::{CellHints, MERGE_ROWS, Store};
 
 /// The word of a block that has the number of its rows.
 const COUNT: u32 = 1;
@@ -21,7 +20,7 @@ const LOW: u32 = 2;
 
 const HIGH: u32 = 4;
 
-/// The leaf that a hint names for a key.
+/// A leaf whose fence keys were found to hold a key.
 #[derive(Clone, Copy, Debug, PartialEq, Eq)]
 pub(crate) struct LikelyLeaf {
     /// The number of the leaf.
@@ -30,18 +29,52 @@ pub(crate) struct LikelyLeaf {
     pub high: Key,
 }
 
-/// The leaf that a hint names for a key, if the fence keys of its cells hold the key. None at the last leaf, with which
-/// a round ends. The first call looks at the first blocks of all leaves: a pass that hands out no hint of its own would
-/// else come to know one leaf a turn.
-pub(crate) fn likely_leaf(store: &Store, hints: &mut CellHints, key: Key) -> Option<LikelyLeaf> {
-    // Else a worker that has only served, and never written, would know no leaf.
-    hints.survey_once(store);
-    let leaf = hints.leaf_of(key);
+/// The leaf to which turns of one kind are likely to come next. Kept: the number after that of the leaf at which the
+/// last one looked, since leaves of a load have their numbers in the order of their keys. It may be wrong, since leaves
+/// are split and merged. That is harmless: fence keys tell whether it has the key, and a hint is asked where it hasn't.
+/// It costs a look at one more leaf's fence keys where it is wrong, and spares a turn the search among the hints.
+#[derive(Clone, Copy, Debug, PartialEq, Eq)]
+pub struct NextLeaf {
+    leaf: u32,
+}
+
+impl NextLeaf {
+    /// The one with the first number.
+    pub(crate) fn first() -> NextLeaf {
+        NextLeaf { leaf: 0 }
+    }
+
+    /// The leaf that is likely to have a key: this one, or the one that a hint names, if its fence keys hold the key.
+    /// None at the last leaf, with which a round ends. The first search looks at the first blocks of all leaves: a pass
+    /// that hands out no hint of its own would else come to know one leaf a turn.
+    pub(crate) fn of_key(
+        &mut self,
+        store: &Store,
+        hints: &mut CellHints,
+        key: Key,
+    ) -> Option<LikelyLeaf> {
+        let found = match leaf_with(store, self.leaf, key) {
+            Some(found) => found,
+            None => {
+                // Else a worker that has only served, and never written, would know no leaf.
+                hints.survey_once(store);
+                leaf_with(store, hints.leaf_of(key), key)?
+            }
+        };
+        self.leaf = found.leaf.saturating_add(1);
+        Some(found)
+    }
+}
+
+/// A leaf, if the fence keys of its cells hold the key, and it isn't the last one.
+fn leaf_with(store: &Store, leaf: u32, key: Key) -> Option<LikelyLeaf> {
     let cells = cells_of(leaf);
-    let low = key_in(store, cells.start, LOW);
+    if key.is_below(key_in(store, cells.start, LOW)) {
+        return None;
+    }
     let high = key_in(store, cells.end.saturating_sub(1), HIGH);
     // At the last leaf a sweep frees retired leaves too, so it isn't passed over.
-    let holds = !key.is_below(low) && key.is_below(high) && high.is_below(Key::END);
+    let holds = key.is_below(high) && high.is_below(Key::END);
     holds.then_some(LikelyLeaf { leaf, high })
 }
 
@@ -53,8 +86,13 @@ pub(crate) fn cells_of(leaf: u32) -> Range<u32> {
 
 /// Where the leaf of a key ends, if it is likely that its cells have enough rows each, and too many in all to be
 /// merged.
-pub(crate) fn beyond_full_leaf(store: &Store, hints: &mut CellHints, key: Key) -> Option<Key> {
-    let LikelyLeaf { leaf, high } = likely_leaf(store, hints, key)?;
+pub(crate) fn beyond_full_leaf(
+    store: &Store,
+    hints: &mut CellHints,
+    next: &mut NextLeaf,
+    key: Key,
+) -> Option<Key> {
+    let LikelyLeaf { leaf, high } = next.of_key(store, hints, key)?;
     are_full(store, cells_of(leaf)).then_some(high)
 }
 

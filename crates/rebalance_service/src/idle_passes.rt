@@ -6,18 +6,17 @@
 ghost use Rattle.std.specs.Prelude.{◌≡◌, ◌<◌, ◌≤◌, true, Some, IfOk, length};
 ghost use Rattle.graph_model.specs.Rows.{all_rows};
 ghost use Rattle.part_scan.specs.Parts.{rows_in};
-ghost use Rattle.reader_parts.specs.SharedStore.Passes.{IsOpen, KeepsOpen, view_in};
+ghost use Rattle.worker_calls.specs.SharedStore.Passes.{IsOpen, KeepsOpen, view_in};
 ghost use Rattle.rebalance_service.specs.Spare.{AreSpare, AreSpareOf};
 
-use crate::one_list::read_alone;
 use crate::worker::Home;
 use graph_model::NoMemory;
 use part_scan::RowLists;
-use reader_parts::below::{Pass, Store};
-use reader_parts::scan_parts;
 use std::marker::PhantomData;
 use std::sync::Wait;
 use std::thread::Threads;
+use worker_calls::below::{Pass, Store, scan_parts};
+use worker_calls::read_alone;
 
 /// Passes of the store of `H`, none of which has a transaction.
 pub struct IdlePasses<H: Home> {

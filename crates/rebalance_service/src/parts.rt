@@ -7,17 +7,17 @@ ghost use Rattle.std.specs.Prelude.{◌≡◌, ◌<◌, ◌≤◌, ℕ, Some, Is
 ghost use Rattle.graph_model.specs.AccountSteps.{ReadsBy, view_of};
 ghost use Rattle.graph_model.specs.Rows.{all_rows};
 ghost use Rattle.part_scan.specs.Parts.{rows_in};
-ghost use Rattle.reader_parts.specs.SharedStore.Passes.{IsOpen, KeepsOpen, account_of, view_in};
-ghost use Rattle.rebalance_service.specs.Ready.{HasSeenLegal, IsReady};
+ghost use Rattle.worker_calls.specs.SharedStore.Passes.{IsOpen, KeepsOpen, account_of, view_in};
+ghost use Rattle.worker_calls.specs.Ready.{HasSeenLegal, IsReady};
 
-use crate::one_list::{filled_up, read_alone};
 use crate::readers::Readers;
 use crate::worker::{Home, Worker};
 use graph_model::NoMemory;
 use part_scan::{PartScan, RowLists};
-use reader_parts::below::{Pass, Store};
 use std::sync::Wait;
 use std::thread::Threads;
+use worker_calls::below::{Pass, Store};
+use worker_calls::{filled_up, read_alone};
 
 impl<'a, R: Threads + Wait + Sync, H: Home> PartScan for Worker<'a, R, H> {
     fn scan_parts(&mut self, parts: u32) -> Result<RowLists, NoMemory> {

@@ -6,15 +6,15 @@
 ghost use Rattle.std.specs.Prelude.{◌≡◌, ◌<◌, ◌≤◌, Some, IfOk, length};
 ghost use Rattle.graph_model.specs.Rows.{all_rows};
 ghost use Rattle.part_scan.specs.Parts.{rows_in};
-ghost use Rattle.reader_parts.specs.SharedStore.Passes.{IsOpen, KeepsOpen, view_in};
+ghost use Rattle.worker_calls.specs.SharedStore.Passes.{IsOpen, KeepsOpen, view_in};
 
 use crate::idle_passes::IdlePasses;
 use crate::worker::Home;
 use graph_model::NoMemory;
 use part_scan::RowLists;
-use reader_parts::below::{Pass, Store};
 use std::sync::{Mutex, Wait};
 use std::thread::Threads;
+use worker_calls::below::{Pass, Store};
 
 /// A type of which a value can keep the fact that threads may share it. Each type is one.
 pub trait SharedHandle {

@@ -4,20 +4,18 @@
 
 ghost use Rattle.std.specs.Prelude.{◌≡◌};
 ghost use Rattle.graph_model.specs.AccountSteps.{ReadsBy};
-ghost use Rattle.reader_parts.specs.SharedStore.Passes.{account_of};
-ghost use Rattle.rebalance_service.specs.Ready.{HasSeenLegal, IsReady};
+ghost use Rattle.worker_calls.specs.SharedStore.Passes.{account_of};
+ghost use Rattle.worker_calls.specs.Ready.{HasSeenLegal, IsReady};
 ghost use Rattle.rebalance_service.specs.Turns.{next_turn};
 
-use crate::idle::beyond_full_leaf;
-use crate::room::has_room;
-use crate::settled::{FreeLeaf, SettledLeaves};
+use crate::idle::{NextLeaf, beyond_full_leaf};
+use crate::sweep_notes::{FreeLeaf, SweepNotes};
 use graph_model::NoMemory;
 use pass_merges::{MergeKey, MergeTurn, merge_step};
-use pass_room::PassRoom;
-use pass_room::below::{LeafSwept, SweepKey, SweepTurn, sweep_step};
-use reader_parts::below::{Pass, Store};
 use std::alloc::Global;
 use std::sync::Wait;
+use worker_calls::below::{LeafSwept, Pass, PassRoom, Store, SweepKey, SweepTurn, sweep_step};
+use worker_calls::has_room;
 
 /// What a turn of the service does.
 #[derive(Clone, Copy, Debug, PartialEq, Eq)]
@@ -37,6 +35,10 @@ pub struct ServiceKeys {
     pub sweep: SweepKey,
     /// Where merging goes on.
     pub merge: MergeKey,
+    /// The leaf that is likely to be swept next.
+    pub sweep_leaf: NextLeaf,
+    /// The same of merging.
+    pub merge_leaf: NextLeaf,
 }
 
 impl ServiceKeys {
@@ -46,6 +48,8 @@ impl ServiceKeys {
             turn: WorkerTurn::Sweep,
             sweep: SweepKey::first(),
             merge: MergeKey::first(),
+            sweep_leaf: NextLeaf::first(),
+            merge_leaf: NextLeaf::first(),
         }
     }
 }
@@ -56,7 +60,7 @@ pub(crate) fn serve(
     store: &Store,
     pass: &mut Pass,
     room: &mut Option<PassRoom>,
-    settled: &mut SettledLeaves,
+    notes: &mut SweepNotes,
     keys: &mut ServiceKeys,
 ) -> Result<bool, NoMemory>
     requires ready { ∥ IsReady store.now pass.old ∥₁ }
@@ -69,37 +73,54 @@ pub(crate) fn serve(
         WorkerTurn::Sweep => {
             // The turn is passed on first, so that neither step can hold up the other.
             keys.turn = WorkerTurn::Merge;
-            Ok(sweep(rt, store, pass, settled, &mut keys.sweep))
+            Ok(sweep(
+                rt,
+                store,
+                pass,
+                notes,
+                &mut keys.sweep,
+                &mut keys.sweep_leaf,
+            ))
         }
         WorkerTurn::Merge => {
             keys.turn = WorkerTurn::Sweep;
-            merge(rt, store, pass, room, settled, &mut keys.merge)
+            merge(
+                rt,
+                store,
+                pass,
+                room,
+                notes,
+                &mut keys.merge,
+                &mut keys.merge_leaf,
+            )
         }
     }
 }
 
-/// Prunes the next leaf, and answers whether a record went. A leaf that is likely to have none is passed over without a
-/// latch.
+/// Prunes the next leaf, and answers whether a record went. A leaf that is likely to have none, or is being changed, is
+/// passed over without a latch.
 fn sweep(
     rt: &impl Wait,
     store: &Store,
     pass: &mut Pass,
-    settled: &mut SettledLeaves,
+    notes: &mut SweepNotes,
     key: &mut SweepKey,
+    next: &mut NextLeaf,
 ) -> bool
     requires ready { ∥ IsReady store.now pass.old ∥₁ }
     ensures ready { ∥ IsReady store.now pass.new ∥₁ }
     ensures legal { HasSeenLegal (account_of store.now pass.new) }
     ensures reads { ReadsBy (account_of store.now pass.old) (account_of store.now pass.new) }
 {
-    // Before the sweep: a cell that changes while it goes on has another sum afterwards, and then the leaf isn't noted.
-    let looked = FreeLeaf::of_key(store, &mut pass.cells.hints, key.next);
-    if let Some(next) = settled.beyond(looked) {
-        key.next = next;
+    // Before the sweep: a cell that changes while it goes on has another sum afterwards, and then the leaf isn't noted
+    // as settled.
+    let looked = FreeLeaf::of_key(store, &mut pass.cells.hints, next, key.next);
+    if let Some(high) = notes.beyond(looked) {
+        key.next = high;
         return false;
     }
     let swept = sweep_here(rt, store, pass, key);
-    settled.note(store, looked, &swept);
+    notes.note(store, looked, &swept);
     swept.took()
 }
 
@@ -122,25 +143,25 @@ fn merge(
     store: &Store,
     pass: &mut Pass,
     room: &mut Option<PassRoom>,
-    settled: &mut SettledLeaves,
+    notes: &mut SweepNotes,
     key: &mut MergeKey,
+    next: &mut NextLeaf,
 ) -> Result<bool, NoMemory>
     requires ready { ∥ IsReady store.now pass.old ∥₁ }
     ensures ready { ∥ IsReady store.now pass.new ∥₁ }
     ensures legal { HasSeenLegal (account_of store.now pass.new) }
     ensures reads { ReadsBy (account_of store.now pass.old) (account_of store.now pass.new) }
 {
+    let alloc = pass.alloc;
+    // Before a leaf is passed over: else a store of full leaves would have no notes in its first round. Where memory is
+    // refused there are none, and each leaf is swept.
+    let _ = notes.make_room(alloc, store.accounts.config.leaves);
     // A look at words with no latch. If it is wrong the leaf is looked at when the turn comes round again.
-    if let Some(next) = beyond_full_leaf(store, &mut pass.cells.hints, key.next) {
-        key.next = next;
+    if let Some(high) = beyond_full_leaf(store, &mut pass.cells.hints, next, key.next) {
+        key.next = high;
         return Ok(false);
     }
-    let alloc = pass.alloc;
     match has_room(room, alloc) {
-        Ok(()) => {}
-        Err(refused) => return Err(refused),
-    }
-    match settled.make_room(alloc, store.accounts.config.leaves) {
         Ok(()) => {}
         Err(refused) => return Err(refused),
     }

@@ -4,27 +4,26 @@
 //!    transaction depends on any of it.
 
 ghost use Rattle.std.specs.Prelude.{◌≡◌, Some};
-ghost use Rattle.reader_parts.specs.StoreRuleDeclared.store.Store.{Store};
-ghost use Rattle.reader_parts.specs.SharedStore.Passes.{IsIdle};
-ghost use Rattle.rebalance_service.specs.Ready.{IsReady};
+ghost use Rattle.worker_calls.specs.StoreRuleDeclared.store.Store.{Store};
+ghost use Rattle.worker_calls.specs.SharedStore.Passes.{IsIdle};
+ghost use Rattle.worker_calls.specs.Ready.{IsReady};
 
 use crate::idle_passes::IdlePasses;
 use crate::readers::{Readers, SharedHandle};
-use crate::scan_place::ScanPlace;
 use crate::serve::ServiceKeys;
-use crate::settled::SettledLeaves;
-use pass_room::PassRoom;
-use reader_parts::below::{Pass, Store};
+use crate::sweep_notes::SweepNotes;
 use std::marker::{Brand, PhantomData};
 use std::sync::{Mutex, Wait};
 use std::thread::Threads;
+use worker_calls::ScanPlace;
+use worker_calls::below::{Pass, PassRoom, Store};
 
 /// Which store a worker is of, and which passes beside its own it may scan by. Whoever lends workers says so by a pick,
 /// and knows when a pass comes back that it is one of that store.
 pub trait Home {
     ghost use Rattle.std.specs.Prelude.{List, Option};
     ghost use Rattle.graph_model.specs.Account.{Account};
-    ghost use Rattle.reader_parts.specs.StoreRuleDeclared.store.Store.{Store};
+    ghost use Rattle.worker_calls.specs.StoreRuleDeclared.store.Store.{Store};
 
     ghost home: { Option Store };
 
@@ -48,8 +47,8 @@ pub struct Worker<'a, R: Wait + SharedHandle, H: Home> {
     pub(crate) pass: Pass,
     /// Made by the first call that moves rows.
     pub(crate) room: Option<PassRoom>,
-    /// Leaves that a sweep may pass over.
-    pub(crate) settled: SettledLeaves,
+    /// Of leaves that a sweep may pass over.
+    pub(crate) notes: SweepNotes,
     /// Where its scan has come to.
     pub(crate) place: ScanPlace,
     /// How many turns of the service it has taken, up to the last number.
@@ -72,14 +71,14 @@ impl<'a, R: Wait, H: Home> Worker<'a, R, H> {
         ensures pass { result.pass ≡ pass }
         ensures served { result.served ≡ 0 }
     {
-        let settled = SettledLeaves::none(pass.alloc);
+        let notes = SweepNotes::none(pass.alloc);
         Worker {
             rt,
             store,
             pass,
             // A worker that only reads never needs it, and one that writes makes it when a row first finds no place.
             room: None,
-            settled,
+            notes,
             place: ScanPlace::nowhere(),
             served: 0,
             keys: ServiceKeys::first(),
@@ -99,7 +98,7 @@ impl<'a, R: Wait, H: Home> Worker<'a, R, H> {
             store: _,
             pass,
             room,
-            settled: _,
+            notes: _,
             place: _,
             served: _,
             keys: _,

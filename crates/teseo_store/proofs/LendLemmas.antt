@@ -8,8 +8,8 @@ use Rattle.rebalance_service.specs.StoreRuleDeclared.store.Store.{Store}
 use Rattle.rebalance_service.specs.SharedStoreDeclared.pass.Pass.{Pass}
 use Rattle.rebalance_service.specs.SharedStore.Ends.{AreIdle}
 use Rattle.rebalance_service.specs.SharedStore.Passes.{IsIdle, account_of}
-use Rattle.rebalance_service.specs.Ready.{IsReady}
-use Rattle.rebalance_service.proofs.ReadyLemmas.{idle_here, start_none}
+use Rattle.rebalance_service.specs.WorkerCalls.Ready.{IsReady}
+use Rattle.rebalance_service.proofs.WorkerCalls.ReadyLemmas.{idle_here, start_none}
 use Rattle.sessions.specs.Sessions.{HasNone}
 use Rattle.graph_model.specs.Account.{Account}
 use Rattle.teseo_store.specs.Lending.{AreInOrder, Doing, IsDoneInSlot, IsLentBack}

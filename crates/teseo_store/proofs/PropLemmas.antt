@@ -9,7 +9,7 @@ use Rattle.rebalance_service.specs.SharedStore.Ends.{AreEnds, AreIdle}
 use Rattle.rebalance_service.specs.StoreRuleDeclared.store.Passes.{Passes as Ends}
 use Rattle.rebalance_service.specs.StoreRuleDeclared.store.Store.{Store}
 use Rattle.rebalance_service.specs.SharedStoreDeclared.pass.Pass.{Pass}
-use Rattle.rebalance_service.proofs.PropLemmas.{idle_prop}
+use Rattle.rebalance_service.proofs.WorkerCalls.PropLemmas.{idle_prop}
 
 table_set : IsSet TableId
 table_set = Coded-set table_id_coded

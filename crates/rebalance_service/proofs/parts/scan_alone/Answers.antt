@@ -1,5 +1,5 @@
-use Rattle.rebalance_service.proofs.CallLemmas.{open_kept}
-use Rattle.rebalance_service.proofs.PartLemmas.{rows_at_start}
+use Rattle.worker_calls.proofs.CallLemmas.{open_kept}
+use Rattle.worker_calls.proofs.PartLemmas.{rows_at_start}
 use Rattle.rebalance_service.proofs.parts.scan_alone.Goals as goal
 
 pub lists_alone-requires-clause-opened : goal.lists_alone-requires-clause-opened

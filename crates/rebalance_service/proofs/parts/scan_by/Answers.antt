@@ -1,6 +1,6 @@
-use Rattle.rebalance_service.proofs.CallLemmas.{open_kept}
-use Rattle.rebalance_service.proofs.PartLemmas.{rows_at_start}
-use Rattle.rebalance_service.proofs.PropLemmas.{home_there}
+use Rattle.worker_calls.proofs.CallLemmas.{open_kept}
+use Rattle.worker_calls.proofs.PartLemmas.{rows_at_start}
+use Rattle.worker_calls.proofs.PropLemmas.{home_there}
 use Rattle.rebalance_service.proofs.parts.scan_by.Goals as goal
 
 pub lists_by-requires-clause-home : goal.lists_by-requires-clause-home

@@ -1,9 +1,9 @@
 use Rattle.std.proofs.Common.{refl}
-use Rattle.rebalance_service.proofs.CallLemmas.{legal_ready}
-use Rattle.rebalance_service.proofs.KeptLemmas.{ready_hinted}
-use Rattle.rebalance_service.proofs.PropLemmas.{is_ready}
-use Rattle.rebalance_service.proofs.RoomLemmas.{goes_on}
-use Rattle.reader_parts.specs.SharedStore.Passes.{account_of}
+use Rattle.worker_calls.proofs.CallLemmas.{legal_ready}
+use Rattle.worker_calls.proofs.KeptLemmas.{ready_hinted}
+use Rattle.worker_calls.proofs.PropLemmas.{is_ready}
+use Rattle.worker_calls.proofs.RoomLemmas.{goes_on}
+use Rattle.worker_calls.specs.SharedStore.Passes.{account_of}
 use Rattle.rebalance_service.proofs.serve.merge.Goals as goal
 
 pub returns-in-Some-clause-legal : goal.returns-in-Some-clause-legal

@@ -1,7 +1,7 @@
 use Rattle.std.proofs.Common.{refl}
-use Rattle.rebalance_service.proofs.CallLemmas.{legal_ready}
-use Rattle.rebalance_service.proofs.KeptLemmas.{kept_goes, ready_none, ready_of, seats_only, turn_account, turn_ready}
-use Rattle.rebalance_service.proofs.PropLemmas.{is_ready}
+use Rattle.worker_calls.proofs.CallLemmas.{legal_ready}
+use Rattle.worker_calls.proofs.KeptLemmas.{kept_goes, ready_none, ready_of, seats_only, turn_account, turn_ready}
+use Rattle.worker_calls.proofs.PropLemmas.{is_ready}
 use Rattle.rebalance_service.proofs.serve.merge_here.Goals as goal
 
 pub merge_step-turn-requires-clause-pass : goal.merge_step-turn-requires-clause-pass

@@ -1,6 +1,6 @@
-use Rattle.rebalance_service.proofs.CallLemmas.{legal_ready}
-use Rattle.rebalance_service.proofs.KeptLemmas.{ready_hinted}
-use Rattle.rebalance_service.proofs.PropLemmas.{is_ready}
+use Rattle.worker_calls.proofs.CallLemmas.{legal_ready}
+use Rattle.worker_calls.proofs.KeptLemmas.{ready_hinted}
+use Rattle.worker_calls.proofs.PropLemmas.{is_ready}
 use Rattle.std.proofs.Common.{refl}
 use Rattle.rebalance_service.proofs.serve.sweep.Goals as goal
 

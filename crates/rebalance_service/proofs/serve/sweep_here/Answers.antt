@@ -1,6 +1,6 @@
-use Rattle.rebalance_service.proofs.CallLemmas.{legal_ready}
-use Rattle.rebalance_service.proofs.KeptLemmas.{ready_none, ready_of, seats_only, turn_account, turn_ready}
-use Rattle.rebalance_service.proofs.PropLemmas.{is_ready}
+use Rattle.worker_calls.proofs.CallLemmas.{legal_ready}
+use Rattle.worker_calls.proofs.KeptLemmas.{ready_none, ready_of, seats_only, turn_account, turn_ready}
+use Rattle.worker_calls.proofs.PropLemmas.{is_ready}
 use Rattle.rebalance_service.proofs.serve.sweep_here.Goals as goal
 
 pub sweep_step-turn-requires-clause-pass : goal.sweep_step-turn-requires-clause-pass

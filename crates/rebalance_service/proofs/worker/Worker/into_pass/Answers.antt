@@ -1,4 +1,4 @@
-use Rattle.rebalance_service.proofs.PropLemmas.{home_there, is_ready}
+use Rattle.worker_calls.proofs.PropLemmas.{home_there, is_ready}
 use Rattle.rebalance_service.proofs.worker.Worker.into_pass.Goals as goal
 
 pub returns-in-Some-clause-ready : goal.returns-in-Some-clause-ready

@@ -1,5 +1,0 @@
-use Rattle.rebalance_service.proofs.PartLemmas.{IsReading}
-use Rattle.rebalance_service.proofs.one_list.read_rows.Given as goal
-
-abbrev pub invariant-portions : goal.invariant-portions
-invariant-portions g l = IsReading l.store l.fn.pass l.pass l.cursor l.list.items

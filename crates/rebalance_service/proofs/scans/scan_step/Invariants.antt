@@ -1,5 +1,0 @@
-use Rattle.reader_parts.specs.SharedStore.Passes.{KeepsOpen}
-use Rattle.rebalance_service.proofs.scans.scan_step.Given as goal
-
-abbrev pub invariant-tries : goal.invariant-tries
-invariant-tries g l = KeepsOpen l.store l.fn.pass l.pass

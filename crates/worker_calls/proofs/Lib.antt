@@ -1,0 +1,10 @@
+pub mod ReadyLemmas
+pub mod RoomLemmas
+pub mod PropLemmas
+pub mod CallLemmas
+pub mod ScanLemmas
+pub mod KeptLemmas
+pub mod PartLemmas
+pub mod LeafArrayMade
+pub mod PassCellsMade
+pub mod SharedStore

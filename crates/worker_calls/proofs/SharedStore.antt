@@ -1,0 +1,2 @@
+-- Modules of shared_store that crates above name.
+pub use Rattle.reader_parts.proofs.SharedStore.SendLemmas

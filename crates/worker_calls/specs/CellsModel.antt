@@ -1,0 +1,2 @@
+-- Modules of cells_model that crates above name.
+pub use Rattle.reader_parts.specs.CellsModel.Words

@@ -1,0 +1,13 @@
+pub mod Ready
+pub mod Room
+pub mod Scanned
+pub mod CellsModel
+pub mod PassRoomContracts
+pub mod PassSteps
+pub mod RuleModel
+pub mod SharedStore
+pub mod SharedStoreContracts
+pub mod SharedStoreDeclared
+pub mod StoreRelation
+pub mod StoreRuleContracts
+pub mod StoreRuleDeclared

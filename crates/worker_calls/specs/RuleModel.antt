@@ -1,0 +1,2 @@
+-- Modules of rule_model that crates above name.
+pub use Rattle.reader_parts.specs.RuleModel.Sight
