@@ -85,7 +85,8 @@ impl PassCells {
         false
     }
 
-    /// Takes a cell, and answers whether it is the key's and stands after those that were taken before.
+    /// Takes a cell, and answers whether it is the key's and stands after those that were taken before. One that isn't
+    /// may have been taken too: the caller gives it back with the others.
     fn take_next(
         &mut self,
         rt: &impl Wait,
@@ -105,8 +106,7 @@ impl PassCells {
         if cell >= store.index_place() {
             return false;
         }
-        // A cell in hand that doesn't cover the key was named again: the hint is wrong, and to wait for it would be to
-        // wait for oneself.
+        // A cell in hand that doesn't cover the key was named again: to wait for it would be to wait for oneself.
         if self.taken.is_taken(cell) {
             return false;
         }
@@ -115,8 +115,7 @@ impl PassCells {
         let Some(held) = take_next_place(rt, store, &mut pass.latch, cell, holds_none) else {
             return false;
         };
-        // Its fence keys tell whether it is the key's only once it is unpacked under its latch, when nobody can move
-        // its rows any more.
+        // Its fence keys tell whether it is the key's only now, under its latch, when nobody can move its rows.
         let held = gather(store, pass, held);
         let rows = held.value.len();
         let taken = TakenCell {
@@ -125,7 +124,6 @@ impl PassCells {
             words_changed: false,
         };
         let is_next = taken.follows(key, end);
-        // It is added even where it is the wrong one: then the caller gives it back with the others.
         self.taken.add(taken);
         is_next
     }

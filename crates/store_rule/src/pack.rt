@@ -27,8 +27,7 @@ impl Store {
         requires packed { (c : CellState) × HasCell pass.old.account.me.0 held.cell c × (c.unpacked ≡ false)
             × RestsAs c.segment held.value }
         requires buffer { 0 < pass.old.buffers }
-        ensures held { (result.cell ≡ held.cell) × (result.found ≡ held.found)
-            × (result.changed ≡ held.changed) }
+        ensures held { (result.cell ≡ held.cell) × (result.found ≡ held.found) × (result.changed ≡ held.changed) }
         ensures unpacked { (c : CellState) → HasCell pass.old.account.me.0 held.cell c
             → LendsBuffer pass.old pass.new (with_cell pass.old.account.me.0 held.cell (unpacked c)) }
         ensures untouched { (c : CellState) → HasCell pass.old.account.me.0 held.cell c
@@ -54,8 +53,8 @@ impl Store {
         }
     }
 
-    /// Packs a cell: its block spells the contents that the pass knows. Where its words haven't changed the block spells
-    /// them already, and is left as it is. The room for its rows is the pass's again.
+    /// Packs a cell: its block spells the contents that the pass knows. Where its words haven't changed the block
+    /// spells them already, and is left as it is. The room for its rows is the pass's again.
     pub fn pack(
         &self,
         pass: &mut Pass,
@@ -69,8 +68,7 @@ impl Store {
         requires weights { HasSmallWeights held.value }
         requires untouched { words_changed ≡ false
             → (c : CellState) → HasCell pass.old.account.me.0 held.cell c → IsUntouched c }
-        ensures held { (result.cell ≡ held.cell) × (result.found ≡ held.found)
-            × (result.changed ≡ held.changed) }
+        ensures held { (result.cell ≡ held.cell) × (result.found ≡ held.found) × (result.changed ≡ held.changed) }
         ensures packed { (c : CellState) → HasCell pass.old.account.me.0 held.cell c
             → IsPackedCell held.cell c pass.old pass.new result.value }
         ensures buffers { pass.old.buffers < MOST_UNPACKED → pass.new.buffers ≡ pass.old.buffers + 1 }
