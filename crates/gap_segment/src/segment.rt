@@ -275,8 +275,12 @@ fn give_rows(left: &mut Vec<Row>, right: &mut Vec<Row>, place: usize)
 {
     let (_, moved) = left.as_slice().split_at(place);
     let count = moved.len();
+    // The rows that stand there make way, from the last one on, and those that come are laid before them. A rotation
+    // would move each row several times.
+    let has = right.len();
     copy_rows(right, moved);
-    right.rotate_right(count);
+    right.copy_within(0..has, count);
+    lay_front(right, moved);
     left.truncate(place);
 }
 
@@ -292,8 +296,18 @@ fn take_rows(left: &mut Vec<Row>, right: &mut Vec<Row>, count: usize)
     let (moved, rest) = right.as_slice().split_at(count);
     let left_over = rest.len();
     copy_rows(left, moved);
-    right.rotate_left(count);
+    // From the first one on, and none is moved twice.
+    right.copy_within(count.., 0);
     right.truncate(left_over);
+}
+
+/// Puts the rows in place of as many first ones.
+fn lay_front(rows: &mut [Row], front: &[Row])
+    requires { length front.now ≤ length rows.old }
+    ensures { rows.new ≡ front.now ++ drop (length front.now) rows.old }
+{
+    let (place, _) = rows.split_at_mut(front.len());
+    place.copy_from_slice(front);
 }
 
 /// Puts the rows at the end, within the vector's room.
