@@ -95,14 +95,12 @@ fn make_kept<R: Threads + Sync, K: Disk>(
     let kind = kind_of(words);
     let leaves = leaves_of(words.leaves, kind, &input);
     let run = run_scripts_kept(rt, alloc, kind, leaves, input, disk, keeper)?;
-    let commits = run.ran.journal().len() as u64;
-    let summary = summary_of(alloc, commits, run.totals)?;
+    let summary = summary_of(alloc, run.ran.journal().len() as u64, run.totals)?;
     let outputs = outputs_of(rt, alloc, words, &run)?;
-    let is_full = is_full(&run);
     Ok(Prepared {
         outputs,
         summary,
-        is_full,
+        is_full: is_full(&run),
         left: Left::from(run.ran),
     })
 }

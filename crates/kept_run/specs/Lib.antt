@@ -1,4 +1,5 @@
 pub mod Refusals
+pub mod Running
 pub mod RunKeeper
 pub mod SourceRun
 pub mod SourceRunDeclared

@@ -1,3 +1,4 @@
 pub mod Levels
 pub mod PlaceSets
 pub mod Frontiers
+pub mod Rounds

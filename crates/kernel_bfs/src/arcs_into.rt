@@ -29,9 +29,8 @@ pub fn bottom_up<R: Threads + Sync>(
     distances: &mut Vec<u32>,
 )
     requires image { IsImage image.now }
-    requires level { level + 1 < UNREACHED }
+    requires level { (level + 1 < UNREACHED) × HasNoneAbove level distances.old.items }
     requires count { length distances.old.items ≡ length image.now.vertices }
-    requires low { HasNoneAbove level distances.old.items }
     requires room { HasPlaces (length image.now.vertices) frontier.now }
     requires frontier { IsOfLevel level distances.old.items frontier.now }
     ensures { Spreads (FromLevel image.now distances.old.items level) (level + 1)

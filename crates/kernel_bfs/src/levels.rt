@@ -6,13 +6,14 @@
 //!    large that looks at far fewer arcs.
 //! 3. Both ways have one contract, so when to change is a matter of time alone.
 
-ghost use Rattle.std.specs.Prelude.{◌≡◌, ℕ, ◌+◌, ◌^◌, ◌<◌, ◌≤◌, ◌/◌, [], true, false, length, IfOk, OnOk};
+ghost use Rattle.std.specs.Prelude.{◌≡◌, ◌+◌, ◌^◌, ◌<◌, ◌≤◌, ◌/◌, true, false, length, IfOk, OnOk};
 ghost use Rattle.graph_model.specs.Graph.{Graph};
 ghost use Rattle.graph_image.specs.Images.{IsImageOf, Leads};
-ghost use Rattle.kernel_bfs.specs.Levels.{Spreads, Advances, FromArc, HasNoneAbove, IsFrontier, IsSearched};
+ghost use Rattle.kernel_bfs.specs.Levels.{HasNoneAbove, IsFrontier, IsSearched};
 ghost use Rattle.kernel_bfs.specs.declared.levels.TheConstants.{UNREACHED};
 ghost use Rattle.kernel_bfs.specs.PlaceSets.{HasPlaces};
-ghost use Rattle.kernel_bfs.specs.Frontiers.{places_at, IsAtLevel};
+ghost use Rattle.kernel_bfs.specs.Frontiers.{IsAtLevel};
+ghost use Rattle.kernel_bfs.specs.Rounds.{HasRound};
 
 use crate::arcs_into::bottom_up;
 use crate::arcs_out::top_down;
@@ -77,18 +78,12 @@ fn round<R: Threads + Sync>(
     distances: &mut Vec<u32>,
     next: &mut Frontier,
 ) -> Result<(), NoMemory>
-    requires level { level + 1 < UNREACHED }
+    requires level { (level + 1 < UNREACHED) × HasNoneAbove level distances.old.items }
     requires count { length distances.old.items ≡ length image.now.vertices }
-    requires low { HasNoneAbove level distances.old.items }
     requires room { HasPlaces (length image.now.vertices) set.old }
     requires frontier { IsAtLevel (length image.now.vertices) level distances.old.items frontier.now }
     ensures room { HasPlaces (length image.now.vertices) set.new }
-    ensures next { OnOk result (IsAtLevel (length image.now.vertices) (level + 1) distances.new.items next.new) }
-    ensures advances { OnOk result (Advances (level + 1) distances.old.items distances.new.items
-        (places_at (level + 1) distances.new.items)) }
-    ensures spreads { OnOk result ((g : Graph) → IsImageOf image.now g
-        → Spreads (FromArc g image.now.vertices distances.old.items level) (level + 1)
-        distances.old.items [] distances.new.items (places_at (level + 1) distances.new.items)) }
+    ensures round { OnOk result (HasRound image.now level distances.old.items distances.new.items next.new) }
 {
     if is_large(frontier.count, image.len()) {
         let before = distances.as_slice();
@@ -109,16 +104,10 @@ fn round_out(
     distances: &mut Vec<u32>,
     next: &mut Frontier,
 ) -> Result<(), NoMemory>
-    requires level { level + 1 < UNREACHED }
+    requires level { (level + 1 < UNREACHED) × HasNoneAbove level distances.old.items }
     requires count { length distances.old.items ≡ length image.now.vertices }
-    requires low { HasNoneAbove level distances.old.items }
     requires frontier { IsFrontier level distances.old.items frontier.now.places.items }
-    ensures next { OnOk result (IsAtLevel (length image.now.vertices) (level + 1) distances.new.items next.new) }
-    ensures advances { OnOk result (Advances (level + 1) distances.old.items distances.new.items
-        (places_at (level + 1) distances.new.items)) }
-    ensures spreads { OnOk result ((g : Graph) → IsImageOf image.now g
-        → Spreads (FromArc g image.now.vertices distances.old.items level) (level + 1)
-        distances.old.items [] distances.new.items (places_at (level + 1) distances.new.items)) }
+    ensures { OnOk result (HasRound image.now level distances.old.items distances.new.items next.new) }
 {
     next.places.clear();
     top_down(image, level, &frontier.places, distances, &mut next.places)?;

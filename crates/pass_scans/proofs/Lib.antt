@@ -1,2 +1,1 @@
 pub mod PackedLemmas
-pub mod SweptLemmas

@@ -1,4 +1,3 @@
 pub mod Packed
-pub mod Swept
 pub mod PassSteps
 pub mod PassSweeps

@@ -3,3 +3,4 @@ pub mod StepLemmas
 pub mod RaisedLemmas
 pub mod ChainLemmas
 pub mod KeyLemmas
+pub mod SweptLemmas

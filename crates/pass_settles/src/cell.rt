@@ -138,7 +138,7 @@ pub fn lower_cell(store: &Store, pass: &mut Pass, cell: u32, changed: bool)
 }
 
 /// Takes the marks off its words.
-pub fn clear_cell(store: &Store, pass: &mut Pass, cell: u32, resting: &Resting)
+pub(crate) fn clear_cell(store: &Store, pass: &mut Pass, cell: u32, resting: &Resting)
     requires table { pass.old.account.table_id ≡ store.now.accounts.table.shared.table_id }
     requires cell { cell < cells_of store.now.accounts.config }
     requires held { (c : CellState) × HasCell pass.old.account.me.0 cell c × (c.unpacked ≡ true) }
@@ -168,7 +168,7 @@ fn know_stamped(store: &Store, pass: &mut Pass, cell: u32, by: TxnName, stamp: u
 }
 
 /// And that they are settled.
-pub fn know_settled(store: &Store, pass: &mut Pass, cell: u32)
+pub(crate) fn know_settled(store: &Store, pass: &mut Pass, cell: u32)
     requires table { pass.old.account.table_id ≡ store.now.accounts.table.shared.table_id }
     requires may { (sweep : Sweep) × CanPruneSeen store.now.accounts.config pass.old.account.me.0 pass.old.number
         (state_of pass.old) (pin_of pass.old) sweep (news_of pass.old.account.me.0 cell

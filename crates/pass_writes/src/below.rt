@@ -5,3 +5,4 @@ pub use pass_prunes::below::{
     Store, SweepKey, SweepTurn, TakenCell, begin, commit, end, end_sweep, key_after, meet,
     see_later, stop, sweep_pins, sweep_step, unpin,
 };
+pub use pass_settles::UnsettledCells;

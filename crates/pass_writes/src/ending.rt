@@ -17,9 +17,9 @@ use crate::hand::{put_cells_back, take_cells};
 use crate::keys::FewKeys;
 use epoch_reclaim::Sweep;
 use graph_model::{Key, TxnName, Write};
-use pass_prunes::below::{Pass, PassCells, Store, WrittenRows};
+use pass_prunes::below::{Pass, PassCells, Store, TakenCells, WrittenRows};
 use pass_prunes::prune_taken;
-use pass_settles::{Unsettled, settle_keys};
+use pass_settles::{Unsettled, UnsettledCells, settle_keys, settle_reached};
 use std::sync::Wait;
 
 /// A commit leaves the prune to the sweeps where its horizon is more commits behind. A transaction is open that long:
@@ -79,13 +79,15 @@ fn undo_one(
 }
 
 /// Gives the records in all rows of the last commit its stamp, given its writes, and settles or prunes the cells of
-/// these rows at the horizon of the pass's sweep, where that is near. Takes no memory. The journal is free meanwhile:
-/// whoever meets a record without a stamp is told by the pass's word.
+/// these rows at the horizon of the pass's sweep, where that is near. Then it settles cells that earlier commits of the
+/// pass have left, and notes those that it leaves. Takes no memory. The journal is free meanwhile: whoever meets a
+/// record without a stamp is told by the pass's word.
 pub fn stamp_all(
     rt: &impl Wait,
     store: &Store,
     pass: &mut Pass,
     cells: &mut PassCells,
+    unsettled: &mut UnsettledCells,
     sweep: &Sweep,
     by: TxnName,
     stamp: u64,
@@ -99,8 +101,20 @@ pub fn stamp_all(
     ensures back { HasAllBack store.now pass.old pass.new cells.new.taken.list.items }
 {
     'writes: for place in 0..writes.len() {
-        stamp_one(rt, store, pass, cells, sweep, by, stamp, writes[place]);
+        stamp_one(
+            rt,
+            store,
+            pass,
+            cells,
+            unsettled,
+            sweep,
+            by,
+            stamp,
+            writes[place],
+        );
     }
+    // Those of this commit are not among them: their stamp comes after the horizon.
+    settle_reached(rt, store, pass, sweep, unsettled);
 }
 
 /// Stamps the rows of one write: in cells that settle, in packed ones as they lie, or in cells that are unpacked.
@@ -109,6 +123,7 @@ fn stamp_one(
     store: &Store,
     pass: &mut Pass,
     cells: &mut PassCells,
+    unsettled: &mut UnsettledCells,
     sweep: &Sweep,
     by: TxnName,
     stamp: u64,
@@ -125,9 +140,19 @@ fn stamp_one(
     let keys = few.as_slice();
     // Most cells need not be unpacked, which is the cheap way. From the first key on whose cell has to be, the rest is
     // stamped in hand.
-    let settled = settle_cells(rt, store, pass, cells, sweep, by, stamp, keys);
+    let settled = settle_cells(rt, store, pass, cells, unsettled, sweep, by, stamp, keys);
     if settled < keys.len() {
-        stamp_in_hand(rt, store, pass, cells, sweep, by, stamp, &keys[settled..]);
+        stamp_in_hand(
+            rt,
+            store,
+            pass,
+            cells,
+            unsettled,
+            sweep,
+            by,
+            stamp,
+            &keys[settled..],
+        );
     }
 }
 
@@ -138,6 +163,7 @@ fn settle_cells(
     store: &Store,
     pass: &mut Pass,
     cells: &mut PassCells,
+    unsettled: &mut UnsettledCells,
     sweep: &Sweep,
     by: TxnName,
     stamp: u64,
@@ -153,8 +179,12 @@ fn settle_cells(
     // The cells of a write are asked for once more, so the hints still have most of them. A wrong guess ends the cheap
     // way at its key.
     let guesses = cells.hints.of_all(store, keys);
-    let unsettled = unsettled_cells(store, sweep, stamp);
-    settle_keys(rt, store, pass, sweep, by, stamp, unsettled, keys, &guesses)
+    let end = end_of_unsettled(store, sweep, stamp);
+    let settled = settle_keys(rt, store, pass, sweep, by, stamp, end, keys, &guesses);
+    if !is_reached(store, sweep, stamp) {
+        note_cells(unsettled, &guesses[..settled], stamp);
+    }
+    settled
 }
 
 /// Stamps the rows of these keys in cells that are taken for it, and prunes the cells where the horizon is near.
@@ -163,6 +193,7 @@ fn stamp_in_hand(
     store: &Store,
     pass: &mut Pass,
     cells: &mut PassCells,
+    unsettled: &mut UnsettledCells,
     sweep: &Sweep,
     by: TxnName,
     stamp: u64,
@@ -181,11 +212,14 @@ fn stamp_in_hand(
     if is_worth_a_prune(store, sweep, stamp) {
         prune_taken(store, pass, cells, sweep);
     }
+    if !is_reached(store, sweep, stamp) {
+        note_taken(unsettled, &cells.taken, stamp);
+    }
     put_cells_back(store, pass, cells);
 }
 
 /// What a commit does with cells that can't settle.
-fn unsettled_cells(store: &Store, sweep: &Sweep, stamp: u64) -> Unsettled
+fn end_of_unsettled(store: &Store, sweep: &Sweep, stamp: u64) -> Unsettled
     requires whole { sweep.now.looked ≡ store.now.accounts.config.passes }
 {
     // A cell that is left is taken in hand next, where it is stamped and pruned.
@@ -201,4 +235,26 @@ fn is_worth_a_prune(store: &Store, sweep: &Sweep, stamp: u64) -> bool
     requires whole { sweep.now.looked ≡ store.now.accounts.config.passes }
 {
     stamp.saturating_sub(store.pins().horizon(sweep)) <= MOST_COMMITS_BEHIND
+}
+
+/// Whether the horizon has reached the stamp of a commit. Then the commit notes none of its cells: one that can't settle
+/// has a record of another writer, who settles it.
+fn is_reached(store: &Store, sweep: &Sweep, stamp: u64) -> bool
+    requires whole { sweep.now.looked ≡ store.now.accounts.config.passes }
+{
+    stamp <= store.pins().horizon(sweep)
+}
+
+/// Notes cells that a commit leaves with records.
+fn note_cells(unsettled: &mut UnsettledCells, cells: &[u32], stamp: u64) {
+    'cells: for cell in cells {
+        unsettled.note(*cell, stamp);
+    }
+}
+
+/// Notes those in hand.
+fn note_taken(unsettled: &mut UnsettledCells, taken: &TakenCells, stamp: u64) {
+    'cells: for taken in &taken.list {
+        unsettled.note(taken.held.cell, stamp);
+    }
 }

@@ -10,7 +10,7 @@ ghost use Rattle.shared_store.specs.Passes.{IsOpen};
 
 use graph_model::{Begun, NoMemory, RoomyWrites, TxnName};
 use items::RoomyItems;
-use pass_writes::below::{Pass as Seats, PassCells};
+use pass_writes::below::{Pass as Seats, PassCells, UnsettledCells};
 use std::alloc::Global;
 
 /// A pass of a store. It is in no transaction, or in an open one, of which it has the writes twice: one list goes into
@@ -21,6 +21,8 @@ pub struct Pass {
     pub seats: Seats,
     /// The cells that it has in hand, and its guesses at others.
     pub cells: PassCells,
+    /// Those that its commits have left with records.
+    pub(crate) unsettled: UnsettledCells,
     pub alloc: Global,
     /// How many transactions it has begun.
     pub(crate) begun: u32,
@@ -43,6 +45,7 @@ impl Pass {
         Pass {
             seats,
             cells,
+            unsettled: UnsettledCells::new(),
             alloc,
             begun: 0,
             start: 0,
@@ -80,6 +83,7 @@ impl Pass {
         let Pass {
             seats,
             cells,
+            unsettled: _,
             alloc: _,
             begun: _,
             start: _,

@@ -71,7 +71,7 @@ fn finish(rt: &impl Wait, store: &Store, pass: &mut Pass, by: TxnName, stamp: Op
 }
 
 /// Stamps the rows of a commit, if there was one, and prunes them at the horizon that the pass finds then: where nobody
-/// is open they have no record any more.
+/// is open they have no record any more. Cells that earlier commits had to leave are settled as well.
 fn stamp_rows(rt: &impl Wait, store: &Store, pass: &mut Pass, by: TxnName, stamp: Option<u64>)
     requires { MayStamp store.now pass.old by stamp }
     ensures ended { IsEndedPass store.now pass.new.seats }
@@ -90,6 +90,7 @@ fn stamp_rows(rt: &impl Wait, store: &Store, pass: &mut Pass, by: TxnName, stamp
         store,
         &mut pass.seats,
         &mut pass.cells,
+        &mut pass.unsettled,
         &sweep,
         by,
         stamp,

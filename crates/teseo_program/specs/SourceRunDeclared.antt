@@ -2,3 +2,4 @@
 pub use Rattle.source_run.specs.declared.fault
 pub use Rattle.source_run.specs.declared.input
 pub use Rattle.source_run.specs.declared.ran
+pub use Rattle.source_run.specs.declared.run

@@ -21,18 +21,16 @@ round_out-requires-clause-frontier g c = c.requires.frontier.listed (subst (λ n
 pub returns-then-is_large-clause-room : goal.returns-then-is_large-clause-room
 returns-then-is_large-clause-room g c = (let room = c.requires.room in let same = c.set_to_level.ensures.room in omega arith)
 
-pub returns-then-is_large-clause-next : goal.returns-then-is_large-clause-next
-returns-then-is_large-clause-next g c = on_ok c.take_level.result _ _
-    (λ at. subst (λ n. IsAtLevel n (c.args.level + 1) c.bottom_up.new.distances.items c.take_level.new.frontier) (c.bottom_up.ensures.count ∙ c.requires.count)
-    (subst (λ xs. IsAtLevel (length xs) (c.args.level + 1) xs c.take_level.new.frontier) c.as_slice-after.ensures.value at))
-    c.take_level.ensures
-
-pub returns-then-is_large-clause-advances : goal.returns-then-is_large-clause-advances
-returns-then-is_large-clause-advances g c = on_ok c.take_level.result _ _
-    (λ _. advances_of (FromLevel c.args.image.now c.args.distances.now.items c.args.level) (c.args.level + 1) c.args.distances.now.items c.bottom_up.new.distances.items (places_at (c.args.level + 1) c.bottom_up.new.distances.items) c.bottom_up.ensures)
-    c.take_level.ensures
-
-pub returns-then-is_large-clause-spreads : goal.returns-then-is_large-clause-spreads
-returns-then-is_large-clause-spreads g c = on_ok c.take_level.result _ _
-    (λ _ graph is. by_level c.args.image.now graph is c.args.level c.args.distances.now.items c.bottom_up.new.distances.items (places_at (c.args.level + 1) c.bottom_up.new.distances.items) c.requires.count c.bottom_up.ensures)
-    c.take_level.ensures
+pub returns-then-is_large-clause-round : goal.returns-then-is_large-clause-round
+returns-then-is_large-clause-round g c =
+    let old = c.args.distances.now.items in
+    let new = c.bottom_up.new.distances.items in
+    let level = c.args.level in
+    on_ok c.take_level.result _ _ (λ at. record {
+      next = subst (λ n. IsAtLevel n (level + 1) new c.take_level.new.frontier) (c.bottom_up.ensures.count ∙ c.requires.count)
+          (subst (λ xs. IsAtLevel (length xs) (level + 1) xs c.take_level.new.frontier) c.as_slice-after.ensures.value at);
+      advances = advances_of (FromLevel c.args.image.now old level) (level + 1) old new (places_at (level + 1) new)
+          c.bottom_up.ensures;
+      spreads = λ graph is. by_level c.args.image.now graph is level old new (places_at (level + 1) new) c.requires.count
+          c.bottom_up.ensures;
+    }) c.take_level.ensures

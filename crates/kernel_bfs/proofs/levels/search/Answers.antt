@@ -28,12 +28,12 @@ levels-preserved g c =
     let small : c.levels.level + 1 < UNREACHED = omega (arith, c.levels-test.true, c.len-count.ensures.few) in
     let old = c.levels.distances.items in
     let new = c.round.new.distances.items in
-    let some = told_some n (c.levels.level + 1) new c.round.new.next c.in_ok-round.ensures.next (sym c.is_empty.ensures ∙ c.if-is_empty.false) in (
-      next_on n c.levels.level small old (places_at c.levels.level old) c.levels.invariant.0 new (places_at (c.levels.level + 1) new) c.in_ok-round.ensures.advances some,
+    let some = told_some n (c.levels.level + 1) new c.round.new.next c.in_ok-round.ensures.round.next (sym c.is_empty.ensures ∙ c.if-is_empty.false) in (
+      next_on n c.levels.level small old (places_at c.levels.level old) c.levels.invariant.0 new (places_at (c.levels.level + 1) new) c.in_ok-round.ensures.round.advances some,
       λ graph is. next_right (Leads graph c.args.image.now.vertices) c.args.root n c.levels.level small old (places_at c.levels.level old) c.levels.invariant.0 (c.levels.invariant.1 graph is)
-          new (places_at (c.levels.level + 1) new) (c.in_ok-round.ensures.spreads graph is) (leads_within graph c.args.image.now.vertices),
+          new (places_at (c.levels.level + 1) new) (c.in_ok-round.ensures.round.spreads graph is) (leads_within graph c.args.image.now.vertices),
       c.round.ensures.room,
-      subst (IsAtLevel n (c.levels.level + 1) new) (sym c.swap.ensures.x_after) c.in_ok-round.ensures.next,
+      subst (IsAtLevel n (c.levels.level + 1) new) (sym c.swap.ensures.x_after) c.in_ok-round.ensures.round.next,
     )
 
 pub returns-then-is_empty-clause-searched : goal.returns-then-is_empty-clause-searched
@@ -42,9 +42,9 @@ returns-then-is_empty-clause-searched g c = λ graph is.
     let small : c.levels.level + 1 < UNREACHED = omega (arith, c.levels-test.true, c.len-count.ensures.few) in
     let old = c.levels.distances.items in
     let new = c.round.new.distances.items in
-    let none = told_none n (c.levels.level + 1) new c.round.new.next c.in_ok-round.ensures.next (sym c.is_empty.ensures ∙ c.if-is_empty.true) in
+    let none = told_none n (c.levels.level + 1) new c.round.new.next c.in_ok-round.ensures.round.next (sym c.is_empty.ensures ∙ c.if-is_empty.true) in
     all_done (Leads graph c.args.image.now.vertices) c.args.root n c.levels.level small old (places_at c.levels.level old) c.levels.invariant.0 (c.levels.invariant.1 graph is)
-    new (places_at (c.levels.level + 1) new) (c.in_ok-round.ensures.spreads graph is) (leads_within graph c.args.image.now.vertices) none
+    new (places_at (c.levels.level + 1) new) (c.in_ok-round.ensures.round.spreads graph is) (leads_within graph c.args.image.now.vertices) none
 
 pub returns-clause-searched : goal.returns-clause-searched
 returns-clause-searched g c = λ graph is.

@@ -38,17 +38,35 @@ writes-preserved g c =
       same = same_again c.args.pass.now c.writes.pass c.stamp_one.new.pass inv.same c.stamp_one.ensures.back.same;
     }
 
+pub settle_reached-requires-clause-swept : goal.settle_reached-requires-clause-swept
+settle_reached-requires-clause-swept g c =
+    let inv = c.writes.invariant in
+    (settling_on c.args.store.now c.args.pass.now c.writes.pass c.args.sweep.now c.args.by c.args.stamp
+    (state_of c.writes.pass).unstamped c.requires.settling inv.state inv.pin inv.same).swept
+
 pub returns-clause-stamped : goal.returns-clause-stamped
 returns-clause-stamped g c =
     let kind = c.args.store.now.accounts.config.kind in
     let inv = c.writes.invariant in
+    let found = c.settle_reached.ensures.found in
     let test = c.writes-test.false in
     let end = c.writes.auto.place-end in
     let over : length c.args.writes.now ≤ c.writes.place = omega (arith, test, end) in
     let left : AreLeft kind [] (state_of c.writes.pass).unstamped =
     subst (λ (ws : List Write). AreLeft kind ws (state_of c.writes.pass).unstamped)
     (drop_end c.args.writes.now c.writes.place over) inv.left in
-    inv.state ∙ (λ i. record (state_of c.args.pass.now) {
+    let looks = (state_of c.settle_reached.new.pass).looks in
+    found.state ∙ (λ i. record (inv.state i) { looks = looks }) ∙ (λ i. record (state_of c.args.pass.now) {
       unstamped = none_left kind (state_of c.writes.pass).unstamped left i;
-      looks = (state_of c.writes.pass).looks;
+      looks = looks;
     })
+
+pub returns-clause-back : goal.returns-clause-back
+returns-clause-back g c =
+    let inv = c.writes.invariant in
+    let out = c.settle_reached.ensures in
+    record {
+      none = record { of = out.pass; none = out.none; cells = inv.none.cells };
+      pin = out.found.pin ∙ inv.pin;
+      same = record { number = out.found.number ∙ inv.same.number; reads = out.found.reads ∙ inv.same.reads };
+    }

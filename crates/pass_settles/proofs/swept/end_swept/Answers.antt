@@ -2,8 +2,8 @@ use Rattle.std.proofs.Common.{◌≡◌, ◌∙◌, refl, sym, subst}
 use Rattle.pass_sweeps.specs.PassSteps.Passes.{pin_of, state_of}
 use Rattle.pass_sweeps.proofs.CellLemmas.{account_found, after_learning, own_self}
 use Rattle.pass_sweeps.proofs.HandLemmas.{finds_then, swept_still}
-use Rattle.pass_scans.proofs.SweptLemmas.{told_still}
-use Rattle.pass_scans.proofs.swept.end_swept.Goals as goal
+use Rattle.pass_settles.proofs.SweptLemmas.{told_still}
+use Rattle.pass_settles.proofs.swept.end_swept.Goals as goal
 
 pub settle_known-requires-clause-taken : goal.settle_known-requires-clause-taken
 settle_known-requires-clause-taken c =
@@ -42,19 +42,3 @@ returns-clause-found c =
     finds_then p0 p1 c.settle_known.new.pass
     (account_found store p0 p1 _ c.requires.taken.1.only.of c.learn_writers-clock.ensures.same refl refl refl refl refl)
     c.settle_known.ensures.found
-
-pub returns-then-not-can_settle-clause-taken : goal.returns-then-not-can_settle-clause-taken
-returns-then-not-can_settle-clause-taken c =
-    let store = c.args.store.now in
-    let p0 = c.args.pass.now in
-    let p1 = c.learn_writers-clock.new.pass in
-    let t = c.requires.taken in
-    let has = after_learning store p0 p1 (state_of p0) (pin_of p0) c.args.held.cell t.0 0 t.1.only c.learn_writers-clock.ensures.same in
-    (t.0, record { only = own_self store p1 (state_of p0) (pin_of p0) c.args.held.cell t.0 0 has; packed = t.1.packed; rests = t.1.rests })
-
-pub returns-then-not-can_settle-clause-found : goal.returns-then-not-can_settle-clause-found
-returns-then-not-can_settle-clause-found c =
-    let store = c.args.store.now in
-    let p0 = c.args.pass.now in
-    let p1 = c.learn_writers-clock.new.pass in
-    account_found store p0 p1 _ c.requires.taken.1.only.of c.learn_writers-clock.ensures.same refl refl refl refl refl

@@ -1,7 +1,7 @@
 use Rattle.std.proofs.Common.{◌≡◌}
 use Rattle.pass_sweeps.specs.CellsModel.Cells.{packed}
-use Rattle.pass_scans.proofs.SweptLemmas.{cell_settled, cleared_spells, found_settled, has_cleared, has_raised, has_settled, may_know_settled, packed_settled, settled_half, settled_loose, values_settled}
-use Rattle.pass_scans.proofs.swept.settle_known.Goals as goal
+use Rattle.pass_settles.proofs.SweptLemmas.{cell_settled, cleared_spells, found_settled, has_cleared, has_raised, has_settled, may_know_settled, packed_settled, settled_half, settled_loose, values_settled}
+use Rattle.pass_settles.proofs.swept.settle_known.Goals as goal
 
 pub know_settled-requires-clause-table : goal.know_settled-requires-clause-table
 know_settled-requires-clause-table c =

@@ -1,6 +1,6 @@
 use Rattle.std.proofs.Common.{refl}
 use Rattle.pass_sweeps.proofs.HandLemmas.{finds_none, finds_then, swept_still}
-use Rattle.pass_scans.proofs.swept.settle_each.Goals as goal
+use Rattle.pass_settles.proofs.swept.settle_at_horizon.Goals as goal
 
 pub cells-init : goal.cells-init
 cells-init g c = (c.requires.pass, c.requires.none, finds_none c.args.pass.now c.args.pass.now refl refl refl refl)

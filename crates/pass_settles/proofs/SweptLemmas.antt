@@ -11,7 +11,6 @@ use Rattle.txn_manager.specs.declared.config.Config.{Config}
 use Rattle.store_model.specs.Stamped.{Stamped, StampedVersions, lacks_stamp, stamp, stamp_one}
 use Rattle.epoch_reclaim.specs.declared.sweep.Sweep.{Sweep}
 use Rattle.epoch_reclaim.specs.Pinned.{horizon_of}
-use Rattle.pass_cells.specs.VersionSegment.Checks.{AreNamedIn, AreNamedRows}
 use Rattle.pass_sweeps.specs.VersionSegment.Resting.{resting_of, settled_rest, CanSettle, RestingRow, RestingRows}
 use Rattle.pass_sweeps.specs.VersionSegment.Rows.{IsSegment, VersionedRows}
 use Rattle.pass_sweeps.specs.VersionSegment.Settling.{SettlesSegment, each_row, settled_segment, stamped_segment}
@@ -35,7 +34,7 @@ use Rattle.pass_sweeps.proofs.VersionSegment.SettledLemmas.{segment_settles}
 use Rattle.pass_settles.specs.Marks.{HasValues, IsHalfSettled}
 use Rattle.pass_settles.specs.Settled.{ClearsMarks, IsPackedWith}
 use Rattle.pass_settles.proofs.StepLemmas.{cell_cleared, cell_is, cell_now, may_settle, raised_half, rest_length, settled_spells, values_small}
-use Rattle.pass_scans.specs.Swept.{nobody}
+use Rattle.pass_settles.specs.Swept.{nobody}
 
 -- ---- nobody's records
 
@@ -67,16 +66,27 @@ module _ (z : Config) (v : Sight) (n : ℕ) where
           ap (λ t. cond {A = Stamped} t (record { by = x.by; stamp = Some n; value = x.value }) x)
           (ap (λ o. same_name x.by (nobody z) && not (is_some o)) e ∙ left_no (same_name x.by (nobody z)))
 
-  all_same : (xs : List Stamped) → AreNamedIn (is_writer z v) xs → map (stamp_one (nobody z) n) xs ≡ xs
+  all_same : (xs : List Stamped) → AllByRecursion (λ x. x.stamp ≡ None → is_writer z v x.by ≡ true) xs
+      → map (stamp_one (nobody z) n) xs ≡ xs
   all_same [] named = refl
   all_same (x ∷ xs) named = λ i. one_same x named.0 i ∷ all_same xs named.1 i
 
-  rows_same : (rows : List (Key × StampedVersions)) → AreNamedRows (is_writer z v) rows → each_row (stamp (nobody z) n) rows ≡ rows
-  rows_same [] named = refl
-  rows_same (r ∷ rs) named = λ i. (
+  -- the writers of records without a stamp are passes
+  abbrev AreWriters : StampedVersions → Type 0
+  AreWriters w = AllByRecursion (λ x. x.stamp ≡ None → is_writer z v x.by ≡ true) w.pairs
+      × AllByRecursion (λ x. x.stamp ≡ None → is_writer z v x.by ≡ true) w.touches
+
+  rows_same : {P : Key × StampedVersions → Type 0} (rows : List (Key × StampedVersions)) → AllByRecursion P rows
+      → ((r : Key × StampedVersions) → P r → AreWriters r.1) → each_row (stamp (nobody z) n) rows ≡ rows
+  rows_same [] named told = refl
+  rows_same (r ∷ rs) named told = λ i. (
     r.0,
-    record { pairs = all_same r.1.pairs named.0.pairs i; oldest = r.1.oldest; touches = all_same r.1.touches named.0.touches i },
-  ) ∷ rows_same rs named.1 i
+    record {
+      pairs = all_same r.1.pairs (told r named.0).0 i;
+      oldest = r.1.oldest;
+      touches = all_same r.1.touches (told r named.0).1 i;
+    },
+  ) ∷ rows_same rs named.1 told i
 
 -- a segment with rows covers a key
 some_key : (s : VersionedRows) → IsSegment s → (length s.rows == 0) ≡ false → (q : Key) × (covers s q ≡ true)
@@ -117,7 +127,8 @@ module _ (store : Store) (p0 p1 : Pass) (k : ℕ) (c0 : CellState) (sweep : Swee
   none_stamped : stamped_segment (nobody store.accounts.config) 0 c0.segment ≡ c0.segment
   none_stamped = λ i. record c0.segment {
     rows = rows_same store.accounts.config p0.account.me.0 0 c0.segment.rows
-        (rows_named store.accounts.config p0.account.me.0 (state_of p0) clock told k c0 has.cell has.inside spells.sound) i;
+        (rows_named store.accounts.config p0.account.me.0 (state_of p0) clock told k c0 has.cell has.inside spells.sound)
+        (λ r named. (named.pairs, named.touches)) i;
   }
 
   key_there : (q : Key) × (covers c0.segment q ≡ true)

@@ -5,7 +5,7 @@ use Rattle.pass_sweeps.proofs.HandLemmas.{finds_none, finds_then, swept_still}
 use Rattle.pass_sweeps.proofs.SweptLemmas.{taken_finds}
 use Rattle.pass_sweeps.specs.Pruning.{HasCellOnly}
 use Rattle.pass_settles.specs.Settled.{IsPackedWith}
-use Rattle.pass_scans.proofs.swept.settle_one.Goals as goal
+use Rattle.pass_settles.proofs.swept.settle_one.Goals as goal
 
 pub end_swept-held-requires-clause-taken : goal.end_swept-held-requires-clause-taken
 end_swept-held-requires-clause-taken g c =
