@@ -78,7 +78,7 @@ pub fn weight(rt: &impl Wait, store: &Store, pass: &mut Pass, u: u64, v: u64) ->
     reads::weight(rt, store, pass, u, v)
 }
 
-/// Takes one turn of a scan. A cell in which it has met records is settled after it, where nobody needs them any more.
+/// Takes one turn of a scan. Cells in which it has met records are settled after it, where nobody needs them any more.
 pub fn scan_step(
     rt: &impl Wait,
     store: &Store,

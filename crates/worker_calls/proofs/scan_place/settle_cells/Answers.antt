@@ -1,7 +1,7 @@
 use Rattle.worker_calls.proofs.CallLemmas.{legal_ready}
 use Rattle.worker_calls.proofs.KeptLemmas.{ready_none, ready_of, seats_only, turn_account, turn_ready}
 use Rattle.worker_calls.proofs.PropLemmas.{is_ready}
-use Rattle.worker_calls.proofs.scan_place.settle_cell.Goals as goal
+use Rattle.worker_calls.proofs.scan_place.settle_cells.Goals as goal
 
 pub settle_swept-requires-clause-pass : goal.settle_swept-requires-clause-pass
 settle_swept-requires-clause-pass g c =
