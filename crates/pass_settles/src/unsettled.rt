@@ -127,3 +127,37 @@ impl UnsettledCells {
         reached
     }
 }
+
+#[cfg(test)]
+mod tests {
+    use super::*;
+    use std::test::Fail;
+
+    #[test]
+    fn a_cell_is_taken_once_when_its_last_stamp_is_reached(rt: HostRuntime) -> Result<(), Fail> {
+        let mut unsettled = UnsettledCells::new();
+        unsettled.note(1, 10);
+        unsettled.note(2, 11);
+        unsettled.note(1, 12);
+        unsettled.note(3, 13);
+        assert_eq!(rt; unsettled.take_reached(10).as_slice().len(), 0);
+        assert_eq!(rt; unsettled.take_reached(12).as_slice(), &[1, 2][..]);
+        assert_eq!(rt; unsettled.take_reached(12).as_slice().len(), 0);
+        assert_eq!(rt; unsettled.take_reached(20).as_slice(), &[3][..]);
+        Ok(())
+    }
+
+    /// Of forty cells the first eight have given their places to the last ones.
+    #[test]
+    fn the_last_cells_are_kept_and_few_are_taken_at_once(rt: HostRuntime) -> Result<(), Fail> {
+        let mut unsettled = UnsettledCells::new();
+        for cell in 1..41u32 {
+            unsettled.note(cell, u64::from(cell));
+        }
+        assert_eq!(rt; unsettled.take_reached(8).as_slice().len(), 0);
+        for want in [8, 8, 8, 8, 0] {
+            assert_eq!(rt; unsettled.take_reached(40).as_slice().len(), want);
+        }
+        Ok(())
+    }
+}
