@@ -21,8 +21,8 @@ use Rattle.line_runner.specs.declared.phase.Phase.TheVariants.{Between, Open, Sk
 use Rattle.line_runner.specs.declared.kept.KeptImage.{KeptImage}
 use Rattle.line_runner.specs.declared.reading.LineReading.{LineReading}
 use Rattle.line_runner.specs.Kernels.{IsKeptImage}
-use Rattle.line_runner.specs.Phases.{is_inside, is_open, IsPhase}
-use Rattle.line_runner.specs.Turns.{view_now, MayTakeNow, Calls, ReadsTimes, AnswersLive, TakesOn, WantsOn, AreByAccount, AreExact}
+use Rattle.line_runner.specs.Phases.{is_inside, is_open, sees_same, image_behind, IsPhase}
+use Rattle.line_runner.specs.Turns.{is_call, view_now, MayTakeNow, Calls, ReadsTimes, AnswersLive, TakesOn, WantsOn, AreByAccount, AreExact}
 use Rattle.line_runner.specs.Lines.{given_up}
 use Rattle.line_runner.proofs.ExactLemmas.{takes_here, wants_same}
 use Rattle.job_runner.specs.declared.turn.JobTurn.{JobTurn}
@@ -103,6 +103,14 @@ may_take account job ready c rest is =
     begins : (n : ℕ) (r : Command) → r ≡ commands.Begin → (m : ℕ) → next_txn n r ≤ m → m ≤ account.allowed → n < account.allowed
     begins n r e m le room = let one : n + 1 ≤ m = subst (λ x. next_txn n x ≤ m) e le in omega arith
 
+-- no image stays where none is kept
+pub none_behind : (phase : Phase) (given : LineAnswer) → image_behind phase given None ≡ None
+none_behind phase given = by_test (sees_same phase given)
+  where
+    by_test : (b : Bool) → ◌≡◌ {A = Option KeptImage} (cond b None None) None
+    by_test true = refl
+    by_test false = refl
+
 -- ---- the fields
 
 -- the line at hand, by the job's fields, with what a call may rely on
@@ -127,6 +135,10 @@ module _ {S : Type 0} (e : Calls S) (old : S) (job : Progress) (going : is_over 
         kept = kept;
         job_is = is;
       }
+
+  -- it reads no rows
+  pub call_here : ((x : Command) (rest : List Command) → left_of job ≡ x ∷ rest → is_call x ≡ true) → is_call c ≡ true
+  call_here call = call c (drop (suc (length job.answers)) job.commands) at_hand
 
   -- the line of a kernel was answered as a whole
   pub ran_here : job.phase ≡ Open → (kernel : Kernel) (file : List ℕ) → c ≡ commands.Run kernel file → (new : S) (next : Progress) (given : LineAnswer) → AnswersLive e old (commands.Run kernel file) given new

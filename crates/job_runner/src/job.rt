@@ -11,7 +11,7 @@ ghost use Rattle.run_model.specs.declared.command.Command.{Command};
 ghost use Rattle.run_model.specs.declared.command.Command.TheVariants.{Abort, Run};
 ghost use Rattle.run_model.specs.declared.command.Kernel.{Kernel};
 ghost use Rattle.line_runner.specs.Phases.{is_open};
-ghost use Rattle.line_runner.specs.Turns.{calls, WantsOn};
+ghost use Rattle.line_runner.specs.Turns.{is_call, calls, WantsOn};
 ghost use Rattle.graph_model.specs.OwnerCalls.{account_here};
 ghost use Rattle.job_runner.specs.declared.turn.JobTurn.TheVariants as turns;
 ghost use Rattle.job_runner.specs.Progress.{new_progress, left_of, is_over, listed_table, gone, has_given_up, runs_kernel, EndsTurnOn, GivesUpOn, IsReady, IsReadyBy, IsRolledBack, TakesTurnInParts, TakesTurnOn, TookInParts, TookTurn, TookTurnOn};
@@ -20,7 +20,8 @@ use crate::turn::JobTurn;
 use graph_model::{Engine, NoMemory, StepEngine, VertexEngine};
 use items::RoomyItems;
 use line_runner::{
-    KeptImage, LineAnswer, LineReading, LineTurn, NamedTable, Phase, Tables, run_at_once, take_line,
+    KeptImage, LineAnswer, LineReading, LineTurn, NamedTable, Phase, Tables, answer_call, is_call,
+    run_at_once, take_line,
 };
 use part_scan::PartScan;
 use run_model::{Answer, Command, Script};
@@ -210,6 +211,67 @@ impl Job {
 
     /// Takes the turn, if there is memory.
     fn take_turn<R: Threads + Sync, E: VertexEngine>(
+        &mut self,
+        rt: &R,
+        engine: &mut E,
+    ) -> Result<(), NoMemory>
+        requires going { is_over self.old ≡ false }
+        requires ready { IsReadyBy (E.account engine.old) self.old }
+        ensures ok { let e = calls E.account E.did_begin E.did_write E.did_read E.did_commit E.did_abort in
+            OnOk result ((c : Command) (rest : List Command) → left_of self.old ≡ c ∷ rest
+            → TakesTurnOn e engine.old self.old c self.new engine.new) }
+        ensures err { let e = calls E.account E.did_begin E.did_write E.did_read E.did_commit E.did_abort in
+            OnErr result (WantsOn e engine.old engine.new
+            × (self.new ≡ record self.old { reading = None; image = None })) }
+    {
+        // Most lines read no rows. Such a turn moves neither what was read nor an image, which are long.
+        if self.is_at_call() {
+            self.answer_line(engine)
+        } else {
+            self.read_on(rt, engine)
+        }
+    }
+
+    /// Whether the line at hand reads no rows, and nothing is kept that was read.
+    fn is_at_call(&self) -> bool
+        requires { is_over self.now ≡ false }
+        ensures none { result ≡ true → (self.now.reading ≡ None) × (self.now.image ≡ None) }
+        ensures call { result ≡ true
+            → (c : Command) (rest : List Command) → left_of self.now ≡ c ∷ rest → is_call c ≡ true }
+    {
+        if self.reading.is_some() || self.image.is_some() {
+            return false;
+        }
+        match self.next_command() {
+            Some(command) => is_call(command),
+            None => unreachable!(),
+        }
+    }
+
+    /// Answers the line at hand, which reads no rows, if there is memory.
+    fn answer_line<E: VertexEngine>(&mut self, engine: &mut E) -> Result<(), NoMemory>
+        requires going { is_over self.old ≡ false }
+        requires ready { IsReadyBy (E.account engine.old) self.old }
+        requires none { (self.old.reading ≡ None) × (self.old.image ≡ None) }
+        requires call { (c : Command) (rest : List Command) → left_of self.old ≡ c ∷ rest → is_call c ≡ true }
+        ensures ok { let e = calls E.account E.did_begin E.did_write E.did_read E.did_commit E.did_abort in
+            OnOk result ((c : Command) (rest : List Command) → left_of self.old ≡ c ∷ rest
+            → TakesTurnOn e engine.old self.old c self.new engine.new) }
+        ensures err { let e = calls E.account E.did_begin E.did_write E.did_read E.did_commit E.did_abort in
+            OnErr result (WantsOn e engine.old engine.new
+            × (self.new ≡ record self.old { reading = None; image = None })) }
+    {
+        // Before the engine is called, as for any line.
+        self.answers.reserve(1)?;
+        self.tables.reserve(1)?;
+        let command = &self.script.as_slice()[self.answers.len()];
+        let given = answer_call(engine, command, self.phase)?;
+        self.phase = push_answer(&mut self.answers, &mut self.tables, given);
+        Ok(())
+    }
+
+    /// Takes the turn of a line that may read rows, if there is memory.
+    fn read_on<R: Threads + Sync, E: VertexEngine>(
         &mut self,
         rt: &R,
         engine: &mut E,

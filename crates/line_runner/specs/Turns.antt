@@ -53,6 +53,15 @@ pub record MayTakeNow (account : Account) (phase : Phase) (reading : Option Line
   -- what has been read is the line's
   pub reads : IfSome reading (IsReading (view_now account) r)
 
+-- the line reads no rows: it begins or ends a transaction, or writes
+abbrev pub is_call : Command → Bool
+is_call commands.Begin = true
+is_call commands.Commit = true
+is_call commands.Abort = true
+is_call (commands.Write w) = true
+is_call (commands.Read query) = false
+is_call (commands.Run kernel file) = false
+
 -- ---- turns of a line that reads
 
 -- on a graph so many turns of the line were taken, and this one isn't the last

@@ -19,7 +19,7 @@ mod table;
 pub use answering::{LineAnswer, LineTurn};
 pub use kept::KeptImage;
 pub use kernel_line::run_at_once;
-pub use line::take_line;
+pub use line::{answer_call, is_call, take_line};
 pub use phase::Phase;
 pub use reading::LineReading;
 pub use scan::{Scan, ScanResult};

@@ -6,7 +6,7 @@
 //! 3. A line that scans answers with the last turn of its scan, also where it turns out that a vertex
 //!    isn't there.
 
-ghost use Rattle.std.specs.Prelude.{◌≡◌, ℕ, ◌<◌, ◌≤◌, Option, Some, None, Ok, Err, IsSome, IfSome, IfOk, OnOk, OnErr};
+ghost use Rattle.std.specs.Prelude.{◌≡◌, ℕ, ◌<◌, ◌≤◌, true, Option, Some, None, Ok, Err, IsSome, IfSome, IfOk, OnOk, OnErr};
 ghost use Rattle.graph_model.specs.declared.journal.Begun.{Begun};
 ghost use Rattle.graph_model.specs.declared.limits.TheConstants.{MAX_ID};
 ghost use Rattle.graph_model.specs.declared.refusal.BeginRefusal.TheVariants as begin_refusals;
@@ -20,7 +20,7 @@ ghost use Rattle.run_model.specs.Jobs.{skips};
 ghost use Rattle.line_runner.specs.Kernels.{IsKeptImage};
 ghost use Rattle.line_runner.specs.Scanning.{IsReading, IsScan};
 ghost use Rattle.line_runner.specs.Phases.{phase_behind, plain};
-ghost use Rattle.line_runner.specs.Turns.{view_now, Advances, AnswersRead, FinishesOn, MayTakeNow, ReadsOn, TakesOn, WantsOn, WritesOn, calls};
+ghost use Rattle.line_runner.specs.Turns.{is_call, view_now, Advances, AnswersOn, AnswersRead, FinishesOn, MayTakeNow, ReadsOn, TakesOn, WantsOn, WritesOn, calls};
 
 use crate::answering::{LineAnswer, LineTurn};
 use crate::kept::KeptImage;
@@ -68,6 +68,43 @@ pub fn take_line<R: Threads + Sync, E: VertexEngine>(
         }
     };
     Ok(LineTurn::Answering { given })
+}
+
+/// Answers a line that reads no rows, which takes one turn: it is skipped, or calls the engine once.
+pub fn answer_call<E: VertexEngine>(
+    engine: &mut E,
+    command: &Command,
+    phase: Phase,
+) -> Result<LineAnswer, NoMemory>
+    requires may { MayTakeNow (E.account engine.old) phase None command.now }
+    requires call { is_call command.now ≡ true }
+    ensures answers { let e = calls E.account E.did_begin E.did_write E.did_read E.did_commit E.did_abort in
+        IfOk result (λ given. AnswersOn e engine.old phase None command.now given engine.new) }
+    ensures err { let e = calls E.account E.did_begin E.did_write E.did_read E.did_commit E.did_abort in
+        OnErr result (WantsOn e engine.old engine.new) }
+{
+    match phase {
+        Phase::Skipping => Ok(skip(command)),
+        _ => match command {
+            Command::Begin => begin(engine),
+            Command::Commit => Ok(commit(engine)),
+            Command::Abort => Ok(abort(engine)),
+            Command::Write { write } => make_write(engine, *write),
+            Command::Read { query: _ } => unreachable!(),
+            Command::Run { kernel: _, file: _ } => unreachable!(),
+        },
+    }
+}
+
+/// Whether the line reads no rows.
+pub fn is_call(command: &Command) -> bool
+    ensures { result ≡ is_call command.now }
+{
+    match command {
+        Command::Read { query: _ } => false,
+        Command::Run { kernel: _, file: _ } => false,
+        _ => true,
+    }
 }
 
 /// Begins a transaction.

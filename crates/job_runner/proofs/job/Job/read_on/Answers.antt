@@ -5,7 +5,7 @@ use Rattle.line_runner.specs.Phases.{image_behind}
 use Rattle.line_runner.specs.Turns.{Calls, calls}
 use Rattle.job_runner.specs.Progress.{Progress, listed_table}
 use Rattle.job_runner.proofs.JobLemmas.{may_here, took_here, nothing_wanted}
-use Rattle.job_runner.proofs.job.Job.take_turn.Goals as goal
+use Rattle.job_runner.proofs.job.Job.read_on.Goals as goal
 
 pub take_line-requires-clause-may : goal.take_line-requires-clause-may
 take_line-requires-clause-may g c κs within =
