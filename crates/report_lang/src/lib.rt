@@ -12,4 +12,4 @@ mod pieces;
 mod report;
 
 pub use journal::{text_of_journal, write_journal};
-pub use report::write_report;
+pub use report::{text_of_report, write_report};

@@ -2,15 +2,18 @@
 //!
 //! 1. A line of the script has one line of the report, in the same order; lines that say nothing have none.
 //! 2. Where memory is refused the text is as it was.
+//! 3. Several threads share the answers of a long script.
 
-ghost use Rattle.std.specs.Prelude.{◌≡◌, ◌++◌, codes, OnOk, OnErr};
+ghost use Rattle.std.specs.Prelude.{◌≡◌, ◌++◌, codes, IfOk, OnOk, OnErr};
 ghost use Rattle.run_model.specs.Texts.{answer_text, report_text};
 ghost use Rattle.graphalytics_io.specs.Appends.{Extends};
 
 use crate::pieces::{Field, write_counted, write_named};
 use graph_model::{Cause, Ids, NoMemory, TxnName};
-use graphalytics_io::{Spelling, Text, append_each, write_each};
+use graphalytics_io::{Spelling, Text, append_each, text_of_items, write_each};
 use run_model::Answer;
+use std::alloc::Global;
+use std::thread::Threads;
 
 /// Writes a report at the end of a text: a line for each answer. Without memory nothing is written.
 pub fn write_report(answers: &[Answer], text: &mut Text) -> Result<(), NoMemory>
@@ -18,6 +21,18 @@ pub fn write_report(answers: &[Answer], text: &mut Text) -> Result<(), NoMemory>
     ensures err { OnErr result (text.new ≡ text.old) }
 {
     append_each::<Answer, AnswerLine>(answers, text)
+}
+
+/// The text of a report, made by several threads.
+pub fn text_of_report<R: Threads + Sync>(
+    rt: &R,
+    alloc: Global,
+    answers: &[Answer],
+) -> Result<Text, NoMemory>
+    ensures { IfOk result (λ text. text ≡ report_text answers.now) }
+{
+    let text = text_of_items::<R, Answer, AnswerLine>(rt, alloc, answers)?;
+    Ok(text)
 }
 
 /// The line of an answer.
