@@ -8,6 +8,7 @@ pub mod ShortLemmas
 pub mod ScanLemmas
 pub mod CellsModel
 pub mod PassCellsMade
+pub mod PassSettlesMade
 pub mod PassSteps
 pub mod PassSweeps
 pub mod RuleModel

@@ -11,6 +11,7 @@ use Rattle.latch_table.proofs.table.LatchTable.TheSendSync as latches
 use Rattle.leaf_trie.proofs.branch.Branch.TheLaws.TheKnot as trie
 use Rattle.pass_writes.proofs.PassCellsMade.CellHints.TheSendSync as hints
 use Rattle.pass_writes.proofs.PassCellsMade.TakenCells.TheSendSync as taken
+use Rattle.pass_writes.proofs.PassSettlesMade.UnsettledCells.TheSendSync as unsettled
 use Rattle.pass_writes.proofs.StoreRuleMade.Buffers.TheSendSync as buffers
 use Rattle.pass_writes.proofs.StoreWordsMade.Accounts.TheSendSync as accounts
 use Rattle.leaf_rows.proofs.VersionSegmentMade.Resting.TheSendSync as resting
@@ -42,7 +43,8 @@ cells_send = recorded_send Cells.the_field.row _ _ Cells.the_type.to_one cells_f
 
 pub pass_send : IsSend Pass.the_row
 pass_send =
-    search (sendable, crosses, seats_field_send, cells_field_send, roomy.the_send, write.the_send) depth 60 fits 100000
+    search (sendable, crosses, seats_field_send, cells_field_send, unsettled.the_send, roomy.the_send, write.the_send)
+    depth 60 fits 100000
 
 -- threads may share a store
 pub store_sync : IsSync Store.the_row

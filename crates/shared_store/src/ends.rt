@@ -15,7 +15,9 @@ ghost use Rattle.shared_store.specs.Ends.{AreEnds, AreIdle, AreNew, HasClosed, H
 use crate::pass::Pass;
 use crate::totals::totals_of;
 use graph_model::{Journal, NoMemory};
-use pass_writes::below::{Content, Pass as Seats, PassCells, Passes as Ends, Store};
+use pass_writes::below::{
+    Content, Pass as Seats, PassCells, Passes as Ends, Store, UnsettledCells,
+};
 use std::alloc::Global;
 use txn_manager::{Config, StoreRefusal, Totals};
 
@@ -92,8 +94,10 @@ fn seat_all(alloc: Global, store: &Store, mut seats: Vec<Seats>) -> Result<Vec<P
     let cells = store.index_place();
     let mut list = Vec::with_capacity(alloc, seats.len())?;
     'seats: while !seats.is_empty() {
-        match PassCells::new(alloc, cells) {
-            Ok(own) => put_last(&mut list, Pass::new(alloc, seats.remove(0), own)),
+        match room_of_pass(alloc, cells) {
+            Ok((own, unsettled)) => {
+                put_last(&mut list, Pass::new(alloc, seats.remove(0), own, unsettled));
+            }
             Err(NoMemory) => {
                 // Cells that passes have room for can't be dropped: what is made already is taken apart again.
                 give_up(list);
@@ -102,6 +106,15 @@ fn seat_all(alloc: Global, store: &Store, mut seats: Vec<Seats>) -> Result<Vec<P
         }
     }
     Ok(list)
+}
+
+/// What a pass keeps for so many cells.
+fn room_of_pass(alloc: Global, cells: u32) -> Result<(PassCells, UnsettledCells), NoMemory>
+    ensures { IfOk result (λ made. made.0.taken.list.items ≡ []) }
+{
+    let unsettled = UnsettledCells::new(alloc, cells)?;
+    let own = PassCells::new(alloc, cells)?;
+    Ok((own, unsettled))
 }
 
 /// Puts a pass at the end of a list that has room for it.

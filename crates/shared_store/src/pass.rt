@@ -36,7 +36,12 @@ pub struct Pass {
 
 impl Pass {
     /// A pass that has begun nothing, with its seats and room for cells.
-    pub(crate) fn new(alloc: Global, seats: Seats, cells: PassCells) -> Pass
+    pub(crate) fn new(
+        alloc: Global,
+        seats: Seats,
+        cells: PassCells,
+        unsettled: UnsettledCells,
+    ) -> Pass
         ensures seats { result.seats ≡ seats }
         ensures cells { result.cells ≡ cells }
         ensures begun { result.begun ≡ 0 }
@@ -45,7 +50,7 @@ impl Pass {
         Pass {
             seats,
             cells,
-            unsettled: UnsettledCells::new(),
+            unsettled,
             alloc,
             begun: 0,
             start: 0,
