@@ -45,7 +45,7 @@ impl NextLeaf {
     }
 
     /// The leaf that is likely to have a key: this one, or the one that a hint names, if its fence keys hold the key.
-    /// None at the last leaf, with which a round ends. The first search looks at the first blocks of all leaves: a pass
+    /// None at the last leaf, with which a round ends. The first call looks at the first blocks of all leaves: a pass
     /// that hands out no hint of its own would else come to know one leaf a turn.
     pub(crate) fn of_key(
         &mut self,
@@ -53,13 +53,12 @@ impl NextLeaf {
         hints: &mut CellHints,
         key: Key,
     ) -> Option<LikelyLeaf> {
+        // Where the number is right too: a turn that takes the leaf asks the hints, and those of a worker that has only
+        // served, and never written, know no leaf.
+        hints.survey_once(store);
         let found = match leaf_with(store, self.leaf, key) {
             Some(found) => found,
-            None => {
-                // Else a worker that has only served, and never written, would know no leaf.
-                hints.survey_once(store);
-                leaf_with(store, hints.leaf_of(key), key)?
-            }
+            None => leaf_with(store, hints.leaf_of(key), key)?,
         };
         self.leaf = found.leaf.saturating_add(1);
         Some(found)
