@@ -1,7 +1,6 @@
 use Rattle.std.proofs.Common.{rules, sym, ap, ◌∙◌, subst, length, false, []}
 use Rattle.command_words.specs.Views.{run_request}
 use Rattle.kept_run.specs.SourceRun.Parsing.{meaning_of}
-use Rattle.kept_run.specs.SourceRun.Requests.{kind_of}
 use Rattle.kept_run.proofs.SourceRun.RequestLemmas.{stated_leaves}
 use Rattle.kept_run.proofs.SourceRun.RunLemmas.{files_fit, handed_on}
 use Rattle.kept_run.specs.RunKeeper.Keeping.{IsKept, acknowledged_on}
