@@ -33,8 +33,7 @@ pub fn run_scripts_kept<R: Threads + Sync, K: Disk>(
     disk: &mut K,
     keeper: &mut Keeper,
 ) -> Result<RunResult, KeptRefusal>
-    requires some { 1 ≤ leaves }
-    requires few { leaves ≤ MAX_LEAVES }
+    requires leaves { (1 ≤ leaves) × (leaves ≤ MAX_LEAVES) }
     requires inputs { AreInputs (inputs_of kind (meaning_of input)) }
     requires listed { All (λ job. job ≤ length input.scripts) input.schedule }
     ensures run { IfOk result (HasRun kind leaves input) }
