@@ -20,7 +20,7 @@ use desk_io::Output;
 use graph_model::{NoMemory, Table};
 use graphalytics_io::{Text, text_of_table};
 use items::Items;
-use report_lang::{text_of_journal, write_report};
+use report_lang::{text_of_journal, text_of_report};
 use run_model::{Answer, Name};
 use source_run::below::NamedTable;
 use source_run::{RunResult, script_at};
@@ -47,7 +47,7 @@ pub fn outputs_of<R: Threads + Sync>(
     let jobs = run.jobs.as_slice();
     'reports: for k in 0..jobs.len() {
         let script = script_at(words, k);
-        outputs.push(report_output(alloc, script, jobs[k].answers())?)?;
+        outputs.push(report_output(rt, alloc, script, jobs[k].answers())?)?;
     }
     'jobs: for job in jobs {
         push_results(rt, alloc, job.tables(), &mut outputs)?;
@@ -66,14 +66,18 @@ pub fn output_of(alloc: Global, name: &str, text: Text) -> Result<Output, NoMemo
 }
 
 /// The report of a script under its name.
-fn report_output(alloc: Global, script: &str, answers: &[Answer]) -> Result<Output, NoMemory>
+fn report_output<R: Threads + Sync>(
+    rt: &R,
+    alloc: Global,
+    script: &str,
+    answers: &[Answer],
+) -> Result<Output, NoMemory>
     ensures { IfOk result (λ output. output
         ≡ record { name = report_name script.now; text = report_text answers.now }) }
 {
     let mut name = String::from_str(alloc, script)?;
     name.push_str(".report")?;
-    let mut text = Text::new(alloc);
-    write_report(answers, &mut text)?;
+    let text = text_of_report(rt, alloc, answers)?;
     Ok(Output::new(name, Items::from_vec(text.into_vec())))
 }
 
