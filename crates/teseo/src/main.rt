@@ -2,6 +2,7 @@
 //!
 //! 1. The descriptors of standard input, output and error are open before any file is, so that no
 //!    output can take the place of one that was closed.
+//! 2. What a run has left is not given back at the end, when the process ends anyway.
 #![tactic(auto)]
 
 use desk_io::{OpenGate, StdDesk};
@@ -11,6 +12,7 @@ use kept_program::teseo_kept;
 use std::alloc::Global;
 use std::env::Env;
 use std::fs::{File, OpenOptions};
+use std::mem::forget;
 use std::os::fd::AsRawFd;
 use std::process::ExitCode;
 use std::rt::Files;
@@ -27,12 +29,16 @@ fn main(rt: HostRuntime) -> ExitCode {
     let mut desk = StdDesk::new(alloc, &rt);
     let mut disk = StdDisk::new(&rt);
     let mut left = Left::Nothing;
-    ExitCode::from(match words {
+    let status = match words {
         Ok(words) => teseo_kept(
             &rt, alloc, &words, &mut desk, &OpenGate, &mut left, &mut disk,
         ),
         Err(outcome) => end_with(&mut desk, outcome),
-    })
+    };
+    // All memory goes with the process. To give back the list of each commit before takes a fifth of a microsecond for
+    // each, on one thread, when all else is done.
+    forget(left);
+    ExitCode::from(status)
 }
 
 /// Opens the null device in place of each of the first three descriptors that is closed. Where there
