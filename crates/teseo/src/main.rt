@@ -35,8 +35,8 @@ fn main(rt: HostRuntime) -> ExitCode {
         ),
         Err(outcome) => end_with(&mut desk, outcome),
     };
-    // All memory goes with the process. To give back the list of each commit before takes a fifth of a microsecond for
-    // each, on one thread, when all else is done.
+    // All memory goes with the process. To give back the list of each commit first would keep one thread busy, when all
+    // else is done.
     forget(left);
     ExitCode::from(status)
 }
