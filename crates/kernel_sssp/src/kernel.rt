@@ -16,7 +16,7 @@ use crate::certain::are_certain;
 use crate::distances::table_by;
 use crate::search::BucketSearch;
 use crate::team::find_together;
-use crate::width::width_for;
+use crate::width::{suits_workers, width_for};
 use graph_image::{Image, KernelRefusal, NoMemory, Table};
 use rayon::current_num_threads;
 use std::alloc::Global;
@@ -100,7 +100,7 @@ fn search_together<R: Threads + Sync>(
     ensures { IfOk result (λ found. IfSome found (λ distances. AreCertain image.now root distances.items)) }
 {
     let threads = current_num_threads(rt).min(MOST_THREADS);
-    if threads < FEWEST_THREADS || image.len() < SMALL {
+    if threads < FEWEST_THREADS || image.len() < SMALL || !suits_workers(image) {
         return Ok(None);
     }
     let Some(distances) = find_together(rt, alloc, image, root, width, threads)? else {

@@ -9,9 +9,8 @@
 ghost use Rattle.std.specs.Prelude.{◌<◌, length};
 ghost use Rattle.std.specs.Thread.{IsSync};
 
-use crate::buckets::Visit;
 use crate::distances::UNREACHED;
-use crate::worker::{Offers, Sharing, Worker};
+use crate::worker::{FAR, Offer, Offers, Sharing, Worker};
 use graph_image::{Image, NoMemory};
 use std::alloc::Global;
 use std::thread::{Threads, for_each_mut, join_mut};
@@ -33,7 +32,7 @@ const MOST_ROUNDS: usize = 1048576;
 struct Team {
     sharing: Sharing,
     /// The least weight of a path to each place, of the paths that were found.
-    distances: Vec<u64>,
+    distances: Vec<u32>,
     workers: Vec<Worker>,
     /// What each worker offers.
     offers: Vec<Offers>,
@@ -58,7 +57,7 @@ pub fn find_together<R: Threads + Sync>(
                 workers: _,
                 offers: _,
             } = team;
-            return Ok(Some(distances));
+            return Ok(Some(widened(alloc, distances.as_slice())?));
         }
         made = made.saturating_add(team.visits());
         if round >= TRIED && made / round < FEW {
@@ -85,12 +84,12 @@ impl Team {
         };
         let mut team = Team {
             sharing,
-            distances: vec![in alloc; UNREACHED; count]?,
+            distances: vec![in alloc; FAR; count]?,
             workers: Vec::new(alloc),
             offers: Vec::new(alloc),
         };
         'workers: for _worker in 0..workers {
-            team.workers.push(Worker::new(alloc))?;
+            team.workers.push(Worker::new(alloc)?)?;
             team.offers.push(Offers::new(alloc, workers)?)?;
         }
         team.begin(root)?;
@@ -102,7 +101,7 @@ impl Team {
         let worker = root / self.sharing.share.max(1);
         if worker < self.workers.len() && root < self.distances.len() && root <= u32::MAX as usize {
             self.distances[root] = 0;
-            self.workers[worker].visits.push(Visit {
+            self.workers[worker].visits.push(Offer {
                 place: root as u32,
                 distance: 0,
             })?;
@@ -121,9 +120,10 @@ impl Team {
 
     /// Makes the next bucket in use the one at hand, and says whether there is one.
     fn advance(&mut self) -> bool {
-        let Some(bucket) = self.next_bucket() else {
+        let Some(ahead) = self.distance_to_next() else {
             return false;
         };
+        let bucket = self.sharing.bucket.wrapping_add(ahead);
         self.sharing.bucket = bucket;
         'workers: for i in 0..self.workers.len() {
             self.workers[i].advance(bucket);
@@ -131,11 +131,12 @@ impl Team {
         true
     }
 
-    /// The number of the first bucket of any worker after the one at hand.
-    fn next_bucket(&self) -> Option<u64> {
+    /// How far it is from the bucket at hand to the next one of any worker.
+    fn distance_to_next(&self) -> Option<u64> {
         let mut first = None;
         'workers: for i in 0..self.workers.len() {
-            first = lesser(first, self.workers[i].next_bucket());
+            let next = self.workers[i].distance_to_next(self.sharing.bucket);
+            first = lesser(first, next);
         }
         first
     }
@@ -150,7 +151,7 @@ impl Team {
         look(
             rt,
             image,
-            self.sharing,
+            self.sharing.share,
             self.distances.as_slice(),
             self.workers.as_slice(),
             threads,
@@ -196,12 +197,26 @@ fn lesser(a: Option<u64>, b: Option<u64>) -> Option<u64> {
     }
 }
 
+/// The distances, each in 64 bits.
+fn widened(alloc: Global, distances: &[u32]) -> Result<Vec<u64>, NoMemory> {
+    let mut wide = Vec::with_capacity(alloc, distances.len())?;
+    'distances: for i in 0..distances.len() {
+        let distance = distances[i];
+        wide.push(if distance == FAR {
+            UNREACHED
+        } else {
+            distance as u64
+        })?;
+    }
+    Ok(wide)
+}
+
 /// Has each worker look at the arcs out of what it visits, on so many threads.
 fn look<R: Threads + Sync>(
     rt: &R,
     image: &Image,
-    sharing: Sharing,
-    distances: &[u64],
+    share: usize,
+    distances: &[u32],
     workers: &[Worker],
     threads: usize,
     offers: &mut [Offers],
@@ -214,7 +229,7 @@ fn look<R: Threads + Sync>(
         threads,
         &|number: usize, offers: &mut Offers| {
             if number < workers.len() {
-                offers.look(image, sharing, distances, workers[number].visits.as_slice());
+                offers.look(image, share, distances, workers[number].visits.as_slice());
             }
         },
     );
@@ -230,7 +245,7 @@ fn take<R: Threads + Sync>(
     together: bool,
     first: usize,
     workers: &mut [Worker],
-    distances: &mut [u64],
+    distances: &mut [u32],
 ) {
     let count = workers.len();
     if count == 0 {
@@ -261,10 +276,10 @@ fn take_both<R: Threads + Sync>(
     offers: &[Offers],
     first: usize,
     front: &mut [Worker],
-    low: &mut [u64],
+    low: &mut [u32],
     middle: usize,
     back: &mut [Worker],
-    high: &mut [u64],
+    high: &mut [u32],
 )
     requires front { 0 < length front.old }
     requires back { 0 < length back.old }
