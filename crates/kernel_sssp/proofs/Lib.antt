@@ -1,3 +1,4 @@
+pub mod CertainLemmas
 pub mod ReachedLemmas
 pub mod SearchLemmas
 pub mod TableLemmas

@@ -136,10 +136,10 @@ module _ (image : Places) (root : ℕ) (ds : List ℕ) (are : AreWeights image r
 -- ---- the end
 
 -- where all arcs are relaxed, no path has a lesser weight
-module _ (image : Places) (root : ℕ) (ds : List ℕ) (are : AreWeights image root ds) (relaxed : (p k : ℕ) (a : Arc) → p < length image.vertices → slice_get (arcs_at image.out p) k ≡ Some a → IsRelaxed ds p a) where
-  all_found : (k p weight : ℕ) → HasPathBy (LinkOut image) root k p weight → (slice_index ds p ≡ UNREACHED → ⊥) × (slice_index ds p ≤ weight)
+module _ (image : Places) (root : ℕ) (ds : List ℕ) (start : slice_index ds root ≡ 0) (relaxed : (p k : ℕ) (a : Arc) → p < length image.vertices → slice_get (arcs_at image.out p) k ≡ Some a → IsRelaxed ds p a) where
+  pub all_found : (k p weight : ℕ) → HasPathBy (LinkOut image) root k p weight → (slice_index ds p ≡ UNREACHED → ⊥) × (slice_index ds p ≤ weight)
   all_found zero p weight path =
-      let zero_is : slice_index ds p ≡ 0 = ap (slice_index ds) (sym path.0) ∙ are.start in
+      let zero_is : slice_index ds p ≡ 0 = ap (slice_index ds) (sym path.0) ∙ start in
       (zero_reached (slice_index ds p) zero_is, omega arith)
   all_found (suc k) p weight path =
       let link = path.4 in
@@ -150,10 +150,10 @@ module _ (image : Places) (root : ℕ) (ds : List ℕ) (are : AreWeights image r
       let total = path.5 in
       (known.0, omega arith)
 
-  pub weights_done : IsSearched (LinkOut image) root (length image.vertices) ds
-  weights_done = record {
-    count = are.count;
-    sound = are.sound;
-    least = λ k p weight path. (all_found k p weight path).1;
-    found = λ k p weight path. (all_found k p weight path).0;
-  }
+pub weights_done : (image : Places) (root : ℕ) (ds : List ℕ) → AreWeights image root ds → ((p k : ℕ) (a : Arc) → p < length image.vertices → slice_get (arcs_at image.out p) k ≡ Some a → IsRelaxed ds p a) → IsSearched (LinkOut image) root (length image.vertices) ds
+weights_done image root ds are relaxed = record {
+  count = are.count;
+  sound = are.sound;
+  least = λ k p weight path. (all_found image root ds are.start relaxed k p weight path).1;
+  found = λ k p weight path. (all_found image root ds are.start relaxed k p weight path).0;
+}

@@ -1,3 +1,4 @@
 pub mod Buckets
+pub mod Certain
 pub mod Distances
 pub mod Search

@@ -55,7 +55,7 @@ fn distances_of(distances: &[u64], visits: &[Visit]) -> [u64; AHEAD] {
 }
 
 /// The sum of the weights of the first and the last arc of each place.
-fn sum_of_ends(image: &Image, places: &[u32]) -> u64 {
+pub fn sum_of_ends(image: &Image, places: &[u32]) -> u64 {
     let mut sum = 0u64;
     'places: for i in 0..places.len() {
         let place = places[i] as usize;

@@ -4,19 +4,32 @@
 //! 2. The width of buckets matters for time alone, so no clause names it.
 //! 3. Weights are summed in 64 bits: a way has fewer arcs than there are ids, and no weight is above 32 bits.
 
-ghost use Rattle.std.specs.Prelude.{◌≡◌, ◌<◌, false, length, Err, IfOk, IsTrue};
+ghost use Rattle.std.specs.Prelude.{◌≡◌, ◌<◌, false, length, Err, IfOk, IfSome, IsTrue};
 ghost use Rattle.graph_model.specs.Graph.{Graph, has_vertex};
 ghost use Rattle.graph_model.specs.Tables.{IsSssp};
 ghost use Rattle.graph_model.specs.declared.table.KernelRefusal.TheVariants as KernelRefusal;
 ghost use Rattle.graph_image.specs.Images.{IsImageOf};
 ghost use Rattle.kernel_sssp.specs.Distances.{LinkOut, IsSearched};
+ghost use Rattle.kernel_sssp.specs.Certain.{AreCertain};
 
+use crate::certain::are_certain;
 use crate::distances::table_by;
 use crate::search::BucketSearch;
-use crate::width::width_for;
+use crate::team::find_together;
+use crate::width::{suits_workers, width_for};
 use graph_image::{Image, KernelRefusal, NoMemory, Table};
+use rayon::current_num_threads;
 use std::alloc::Global;
 use std::thread::Threads;
+
+/// An image of fewer places isn't worth threads.
+const SMALL: usize = 16384;
+
+/// Fewer threads than these take as long as one, which has nothing to look at twice.
+const FEWEST_THREADS: usize = 3;
+
+/// More threads than these share the places no better.
+const MOST_THREADS: usize = 32;
 
 /// The least weight of a walk from the root to each vertex, in rising order of vertex, or infinity where
 /// no walk leads (LDBC Graphalytics, SSSP). No clause speaks of running out of memory.
@@ -36,7 +49,7 @@ pub fn run<R: Threads + Sync>(
 
 /// The same by buckets of this width, for whoever knows the graph better. No clause speaks of running out of memory.
 pub fn run_by_width<R: Threads + Sync>(
-    _rt: &R,
+    rt: &R,
     alloc: Global,
     image: &Image,
     root: u64,
@@ -51,18 +64,57 @@ pub fn run_by_width<R: Threads + Sync>(
     let Some(place) = image.position(root) else {
         return Err(KernelRefusal::NoRoot);
     };
-    let distances = least_weights(alloc, image, place, width)?;
+    let distances = least_weights(rt, alloc, image, place, width)?;
     let table = table_by(alloc, image, distances.as_slice())?;
     Ok(table)
 }
 
 /// The least weight of a path from the root to each place.
-fn least_weights(
+fn least_weights<R: Threads + Sync>(
+    rt: &R,
     alloc: Global,
     image: &Image,
     root: usize,
     width: u32,
 ) -> Result<Vec<u64>, NoMemory>
+    requires root { root < length image.now.vertices }
+    requires width { 0 < width }
+    ensures count { IfOk result (λ distances. length distances.items ≡ length image.now.vertices) }
+    ensures searched { IfOk result (λ distances. (g : Graph) → IsImageOf image.now g
+        → IsSearched (LinkOut image.now) root (length image.now.vertices) distances.items) }
+{
+    match search_together(rt, alloc, image, root, width)? {
+        Some(distances) => Ok(distances),
+        None => search_alone(alloc, image, root, width),
+    }
+}
+
+/// The same by several threads, where they are worth it and what they find shows that it is right.
+fn search_together<R: Threads + Sync>(
+    rt: &R,
+    alloc: Global,
+    image: &Image,
+    root: usize,
+    width: u32,
+) -> Result<Option<Vec<u64>>, NoMemory>
+    ensures { IfOk result (λ found. IfSome found (λ distances. AreCertain image.now root distances.items)) }
+{
+    let threads = current_num_threads(rt).min(MOST_THREADS);
+    if threads < FEWEST_THREADS || image.len() < SMALL || !suits_workers(image) {
+        return Ok(None);
+    }
+    let Some(distances) = find_together(rt, alloc, image, root, width, threads)? else {
+        return Ok(None);
+    };
+    if are_certain(rt, image, root, &distances) {
+        Ok(Some(distances))
+    } else {
+        Ok(None)
+    }
+}
+
+/// The same by one thread.
+fn search_alone(alloc: Global, image: &Image, root: usize, width: u32) -> Result<Vec<u64>, NoMemory>
     requires root { root < length image.now.vertices }
     requires width { 0 < width }
     ensures { IfOk result (λ distances.

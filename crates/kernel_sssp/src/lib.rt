@@ -10,9 +10,12 @@
 
 mod ahead;
 mod buckets;
+mod certain;
 mod distances;
 mod kernel;
 mod search;
+mod team;
 mod width;
+mod worker;
 
 pub use kernel::{run, run_by_width};

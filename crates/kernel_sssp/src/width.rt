@@ -17,18 +17,39 @@ const READ: usize = 4096;
 /// How many mean weights a bucket is wide where places have few arcs.
 const WIDE: u64 = 64;
 
+/// With a greater mean weight, distances are likely to be greater than 32 bits hold.
+const HEAVY: u64 = 16777216;
+
+/// What some places tell of all.
+#[derive(Clone, Copy)]
+struct Sample {
+    /// How many they are.
+    places: u64,
+    /// How many arcs lead out of them.
+    arcs: u64,
+    /// The weight of these arcs.
+    weight: u64,
+}
+
 /// A width for the search of a graph.
 pub fn width_for(image: &Image) -> u32
     ensures { 0 < result }
 {
     let places = image.len() as u64;
     let arcs = arcs_of(image).max(1);
-    let mean = mean_weight(image);
+    let mean = sample_of(image).mean_weight();
     if arcs <= places.saturating_mul(2) {
         narrowed(mean.saturating_mul(WIDE))
     } else {
         narrowed(mean.saturating_mul(places) / arcs)
     }
+}
+
+/// Whether several workers may find more at a time than one: where places have two arcs or fewer, few ways lead to a
+/// place, and a round has few visits.
+pub fn suits_workers(image: &Image) -> bool {
+    let sample = sample_of(image);
+    sample.arcs.saturating_mul(2) > sample.places.saturating_mul(5) && sample.mean_weight() <= HEAVY
 }
 
 /// How many arcs lead out of all places.
@@ -40,20 +61,31 @@ fn arcs_of(image: &Image) -> u64 {
     arcs
 }
 
-/// The mean weight of the arcs out of some places.
-fn mean_weight(image: &Image) -> u64 {
+impl Sample {
+    /// The mean weight of the arcs.
+    fn mean_weight(self) -> u64 {
+        self.weight / self.arcs.max(1)
+    }
+}
+
+/// What places that stand equally far apart tell.
+fn sample_of(image: &Image) -> Sample {
     let stride = image.len() / READ + 1;
-    let mut arcs = 0u64;
-    let mut weight = 0u64;
+    let mut sample = Sample {
+        places: 0,
+        arcs: 0,
+        weight: 0,
+    };
     'places: for number in 0..READ {
         let place = number.saturating_mul(stride);
         if place < image.len() {
             let out = image.out(place);
-            arcs = arcs.saturating_add(out.len() as u64);
-            weight = weight.saturating_add(weight_of(out));
+            sample.places = sample.places.saturating_add(1);
+            sample.arcs = sample.arcs.saturating_add(out.len() as u64);
+            sample.weight = sample.weight.saturating_add(weight_of(out));
         }
     }
-    weight / arcs.max(1)
+    sample
 }
 
 /// The weight of all of the arcs.
