@@ -5,7 +5,7 @@ use Rattle.threaded_run.proofs.SeatLemmas.{first_out}
 use Rattle.threaded_run.proofs.seats.seat_all.Goals as goal
 
 pub seat_scripts-requires-clause-can : goal.seat_scripts-requires-clause-can
-seat_scripts-requires-clause-can g c =
+seat_scripts-requires-clause-can g c κs within =
     let count = c.requires.can.count in
     let split = first_out c.args.passes.now.items c.remove-loader.new.self.items c.remove-loader.result (omega (arith, count)) c.remove-loader.ensures.value c.remove-loader.ensures.items in
     subst (λ xs. CanSeat c.args.store.now xs c.args.scripts.items) split c.requires.can
