@@ -1,6 +1,6 @@
 -- What a status tells of the calls that failed, and of what was created.
-use Rattle.std.proofs.Common.{◌≡◌, ℕ, ◌≤◌, ◌⊎◌, inl, inr, ⊎_elim, List, refl, sym, ◌∙◌, ap, subst, arith}
-use Rattle.std.specs.Prelude.{Option, Some, None}
+use Rattle.std.proofs.Common.{◌≡◌, ℕ, ◌≤◌, ◌⊎◌, inl, inr, ⊎_elim, List, [], ◌∷◌, refl, sym, ◌∙◌, ap, subst, arith}
+use Rattle.std.specs.Prelude.{false, Option, Some, None}
 use Rattle.graph_model.specs.declared.write.Kind.{Kind}
 use Rattle.graph_model.specs.declared.journal.Commit.{Commit}
 use Rattle.desk_io.specs.Files.{Files, Rose}
@@ -15,6 +15,7 @@ use Rattle.kept_run.specs.TeseoProgramDeclared.left.Left.{Left}
 use Rattle.kept_run.specs.TeseoProgramDeclared.outcome.Outcome.{Outcome}
 use Rattle.kept_run.specs.TeseoProgramDeclared.outcome.Outcome.TheVariants.{Done, Full, LoadFull, BadWords, NotRead, NotAccepted, NoMemory, NotWritten}
 use Rattle.kept_run.specs.TeseoProgram.Outcomes.{status_of, outcome_of_words, OnlySays, IsRunOutcome, IsMakeOutcome}
+use Rattle.kept_run.specs.TeseoProgram.Prepared.{Writes}
 use Rattle.kept_program.specs.declared.outcome.KeptOutcome.{KeptOutcome}
 use Rattle.kept_program.specs.declared.outcome.KeptOutcome.TheVariants.{Of, NotMade, NotKept, NotAJournal, NotRecovered}
 use Rattle.kept_program.specs.Outcomes.{kept_status, RunEnds, RecoverEnds, IsRecovery, Ends, IsEnd, TellsFaults, CreatesNothing}

@@ -1,6 +1,7 @@
 -- Calls that are accepted, and of which no call of the desk or of the disk fails, end well.
-use Rattle.std.proofs.Common.{◌≡◌, ℕ, ◌⊎◌, inl, inr, ⊎_elim, List, refl, sym, ◌∙◌, ap, subst}
+use Rattle.std.proofs.Common.{◌≡◌, ℕ, ◌*◌, ◌<◌, ◌⊎◌, inl, inr, ⊎_elim, List, refl, sym, ◌∙◌, ap, subst}
 use Rattle.std.specs.Prelude.{Option, Some, None}
+use Rattle.graph_model.specs.declared.limits.TheConstants.{MAX_LEAVES, SPLIT_ROWS}
 use Rattle.graph_model.specs.declared.write.Kind.{Kind}
 use Rattle.graph_model.specs.declared.journal.Commit.{Commit}
 use Rattle.desk_io.specs.Files.{Files, Rose}
@@ -10,11 +11,14 @@ use Rattle.command_words.specs.declared.refusal.WordsRefusal.TheVariants as word
 use Rattle.command_words.specs.Words.{RunRequest, MakeRequest, RecoverRequest, Request, run, make, recover, IsTaken}
 use Rattle.command_words.specs.Views.{RefusesWords}
 use Rattle.command_words.proofs.WordLemmas.{taken_once}
+use Rattle.kept_run.specs.SourceRun.Requests.{kind_of}
+use Rattle.kept_run.specs.SourceRun.Input.{Meaning, texts_of, IsAccepted, inputs_of}
+use Rattle.kept_run.specs.SourceRun.Leaves.{most_rows}
 use Rattle.kept_run.specs.TeseoProgramDeclared.left.Left.{Left}
 use Rattle.kept_run.specs.TeseoProgramDeclared.outcome.Outcome.{Outcome}
 use Rattle.kept_run.specs.TeseoProgramDeclared.outcome.Outcome.TheVariants as ends
-use Rattle.kept_run.specs.TeseoProgram.Outcomes.{status_of, outcome_of_words, IsRunOutcome}
-use Rattle.kept_run.specs.TeseoProgram.Laws.{Stands, HasNoFault}
+use Rattle.kept_run.specs.TeseoProgram.Outcomes.{status_of, outcome_of_words, IsRunOutcome, IsMakeOutcome}
+use Rattle.kept_run.specs.TeseoProgram.Laws.{AreTold, Stands, HasNoFault}
 use Rattle.kept_run.proofs.TeseoProgram.LawLemmas.{end_well, graphs_made, stands_still}
 use Rattle.kept_run.proofs.TeseoProgram.EndLemmas.{room_ends_well}
 use Rattle.kept_run.proofs.TeseoProgram.NamedLemmas.{faulty_named, long_named}
@@ -22,7 +26,7 @@ use Rattle.desk_io.specs.declared.sources.ReadStop.TheVariants as stops
 use Rattle.kept_run.specs.RunKeeper.Keeping.{acknowledged_on}
 use Rattle.kept_program.specs.declared.outcome.KeptOutcome.{KeptOutcome}
 use Rattle.kept_program.specs.declared.outcome.KeptOutcome.TheVariants.{Of, NotMade, NotKept, NotAJournal, NotRecovered}
-use Rattle.kept_program.specs.Outcomes.{kept_status, RunEnds, RecoverEnds, IsRecovery, Ends}
+use Rattle.kept_program.specs.Outcomes.{kept_status, RunEnds, RecoverEnds, IsRecovery, Ends, IsEnd, IsUntaken}
 use Rattle.kept_program.specs.Laws.{IsFaultlessEnd, AcceptedCallsEndWell, CallsWithRoomEndWell, CallsMakeGraphs, FaultySourcesAreTold, LongSourcesAreTold, FilesAreRecovered}
 
 -- ---- words that are taken

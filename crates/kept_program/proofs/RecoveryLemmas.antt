@@ -1,5 +1,5 @@
 -- A journal file that was read back is written as text, or it is said why it wasn't.
-use Rattle.std.proofs.Common.{◌≡◌, [], ◌∷◌, refl, sym, ◌∙◌, ap, subst, inl, inr}
+use Rattle.std.proofs.Common.{◌≡◌, ℕ, List, [], ◌∷◌, refl, sym, ◌∙◌, ap, subst, inl, inr, false}
 use Rattle.std.specs.Prelude.{take, unwrap_or, Option, Some}
 use Rattle.run_model.specs.Texts.{journal_text}
 use Rattle.desk_io.specs.Files.{Files}
@@ -16,7 +16,7 @@ use Rattle.kept_run.specs.TeseoProgram.Outcomes.{said_text, blamed, OnlySays}
 use Rattle.kept_run.specs.TeseoProgram.Prepared.{Writes, IsWritten}
 use Rattle.kept_program.specs.declared.outcome.KeptOutcome.{KeptOutcome}
 use Rattle.kept_program.specs.declared.outcome.KeptOutcome.TheVariants.{Of}
-use Rattle.kept_program.specs.Outcomes.{stop_text, outcome_of_recovery, RecoverEnds}
+use Rattle.kept_program.specs.Outcomes.{stop_text, outcome_of_recovery, IsRecovery, RecoverEnds}
 use Rattle.kept_program.specs.Prepared.{IsRecovered}
 use Rattle.kept_program.specs.Laws.{StopsAreReadBack}
 

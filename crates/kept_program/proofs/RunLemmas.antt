@@ -1,10 +1,14 @@
 -- A run whose commits are kept ends as its outputs are written, or as its preparation stopped.
-use Rattle.std.proofs.Common.{◌≡◌, ℕ, List, length, refl, sym, ◌∙◌, subst, arith, false, inl, inr}
-use Rattle.std.specs.Prelude.{None}
+use Rattle.std.proofs.Common.{◌≡◌, ℕ, ◌*◌, ◌≤◌, List, [], length, refl, sym, ◌∙◌, ap, subst, arith, true, false, inl, inr}
+use Rattle.std.specs.Prelude.{Bool, ◌⊎◌, None, Some}
+use Rattle.graph_model.specs.declared.limits.TheConstants.{MAX_SOURCE_BYTES, SPLIT_ROWS}
 use Rattle.graph_model.specs.declared.write.Kind.{Kind}
 use Rattle.graph_model.specs.declared.journal.Commit.{Commit}
 use Rattle.graph_model.specs.declared.load.LoadRefusal.TheVariants as loads
+use Rattle.graph_model.specs.Inserted.{inserted}
+use Rattle.graphalytics_io.specs.Load.{load_of}
 use Rattle.desk_io.specs.Files.{Files, Rose}
+use Rattle.desk_io.specs.Sources.{AreRead}
 use Rattle.journal_disk.specs.Disk.{DiskState, FaultsStand, FaultsRise}
 use Rattle.kept_run.specs.RunKeeper.Keeping.{IsJournalSoFar, KeepsSoFar}
 use Rattle.kept_run.specs.declared.refusal.KeptRefusal.{KeptRefusal}
@@ -15,21 +19,21 @@ use Rattle.kept_run.specs.SourceRun.Requests.{source_names, report_names, kind_o
 use Rattle.kept_run.specs.SourceRunDeclared.ran.Ran.{Ran}
 use Rattle.kept_run.specs.SourceRunDeclared.ran.Ran.TheVariants.{Stepped, Shared}
 use Rattle.kept_run.specs.SourceRunDeclared.ran.RunResult.{RunResult}
-use Rattle.kept_run.specs.SourceRun.Input.{Meaning, inputs_of}
+use Rattle.kept_run.specs.SourceRun.Input.{Meaning, texts_of, IsAccepted, inputs_of}
 use Rattle.kept_run.specs.SourceRun.Leaves.{leaves_for, most_rows}
-use Rattle.kept_run.specs.SourceRun.Running.{run_outputs, journal_of, IsRunAs, IsLeftOf, HasCounts}
+use Rattle.kept_run.specs.SourceRun.Running.{run_outputs, journal_of, IsRunAs, IsLeftOf, HasCounts, IsRefusedLoad}
 use Rattle.kept_run.specs.TeseoProgramDeclared.left.Left.{Left}
 use Rattle.kept_run.specs.TeseoProgramDeclared.outcome.Outcome.{Outcome}
 use Rattle.kept_run.specs.TeseoProgramDeclared.outcome.Outcome.TheVariants as ends
 use Rattle.kept_run.specs.TeseoProgramDeclared.prepare.Prepared.{Prepared}
-use Rattle.kept_run.specs.TeseoProgram.Outcomes.{shows_full, left_of, OnlySays, IsLeft, IsRunOutcome}
-use Rattle.kept_run.specs.TeseoProgram.Prepared.{IsUnprepared, AreAccepted, Writes, IsWritten}
+use Rattle.kept_run.specs.TeseoProgram.Outcomes.{said_text, shows_full, left_of, OnlySays, IsLeft, IsRunOutcome}
+use Rattle.kept_run.specs.TeseoProgram.Prepared.{IsUnprepared, AreAccepted, IsMadeOf, IsPreparedOf, Writes, IsWritten}
 use Rattle.kept_run.specs.TeseoProgram.Sinks.{sinks_of, summary_line}
 use Rattle.kept_run.proofs.TeseoProgram.OutcomeLemmas.{written_ends, unprepared_ends}
-use Rattle.kept_run.proofs.TeseoProgram.PreparedLemmas.{made_from, stopped_load, prepared_of}
+use Rattle.kept_run.proofs.TeseoProgram.PreparedLemmas.{made_from, stopped_load, load_unprepared, prepared_of}
 use Rattle.kept_program.specs.declared.outcome.KeptOutcome.{KeptOutcome}
 use Rattle.kept_program.specs.declared.outcome.KeptOutcome.TheVariants.{Of, NotMade, NotKept, NotAJournal, NotRecovered}
-use Rattle.kept_program.specs.Outcomes.{stop_text, blamed_by, outcome_of_stop, KeepsSome, HasStopped, Keeps, KeptRunEnds}
+use Rattle.kept_program.specs.Outcomes.{stop_text, blamed_by, outcome_of_stop, KeepsSome, HasStopped, Keeps, IsKeptRun, KeptRunEnds}
 use Rattle.kept_program.specs.Prepared.{IsKeptMade, IsKeptPrepared, IsKeptStop, IsUnkept}
 
 module _ (acknowledged : Kind → List Commit → ℕ → Type 0) (request : RunRequest) where

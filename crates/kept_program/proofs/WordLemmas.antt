@@ -1,7 +1,7 @@
 -- What goes with a journal file.
-use Rattle.std.proofs.Common.{◌≡◌, ℕ, List, refl, subst}
+use Rattle.std.proofs.Common.{◌≡◌, ℕ, List, refl, subst, ap, ◌∙◌}
 use Rattle.std.specs.Prelude.{Bool, true, false, not, ◌&&◌, cond, is_some, Option, None, Some}
-use Rattle.command_words.specs.Words.{RunRequest}
+use Rattle.command_words.specs.Words.{RunRequest, goes_together}
 use Rattle.kept_run.specs.SourceRun.Requests.{IsAsked}
 
 apart : (threads schedule serial : Bool) → cond threads (not schedule && (not serial && not true)) (not (serial && true)) ≡ true → serial ≡ false

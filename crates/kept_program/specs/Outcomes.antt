@@ -14,7 +14,7 @@ use Rattle.kept_run.specs.RunKeeper.Keeping.{KeepsSoFar}
 use Rattle.kept_run.specs.declared.refusal.KeptRefusal.{KeptRefusal}
 use Rattle.kept_run.specs.declared.refusal.KeptRefusal.TheVariants as stops
 use Rattle.command_words.specs.declared.refusal.WordsRefusal.{WordsRefusal}
-use Rattle.command_words.specs.Words.{RunRequest, RecoverRequest, Request, run, make, recover, IsTaken}
+use Rattle.command_words.specs.Words.{RunRequest, MakeRequest, RecoverRequest, Request, run, make, recover, IsTaken}
 use Rattle.command_words.specs.Views.{RefusesWords}
 use Rattle.kept_run.specs.SourceRun.Requests.{kind_of}
 use Rattle.kept_run.specs.SourceRun.Input.{Meaning, inputs_of}

@@ -1,5 +1,5 @@
 -- What is made before the first output is created, and why nothing is.
-use Rattle.std.specs.Prelude.{◌≡◌, ◌*◌, ◌≤◌, ℕ, false, List, [], ◌∷◌, length, None}
+use Rattle.std.specs.Prelude.{◌≡◌, ◌*◌, ◌≤◌, ℕ, false, List, [], ◌∷◌, length}
 use Rattle.graph_model.specs.declared.limits.TheConstants.{SPLIT_ROWS}
 use Rattle.graph_model.specs.declared.write.Kind.{Kind}
 use Rattle.graph_model.specs.declared.journal.Commit.{Commit}
@@ -12,7 +12,7 @@ use Rattle.journal_recovery.specs.Texts.{AreTextsOf}
 use Rattle.kept_run.specs.declared.refusal.KeptRefusal.{KeptRefusal}
 use Rattle.kept_run.specs.declared.refusal.KeptRefusal.TheVariants.{Full, NoMemory, DiskFault}
 use Rattle.command_words.specs.Words.{RunRequest, RecoverRequest}
-use Rattle.kept_run.specs.SourceRun.Requests.{IsAsked, kind_of}
+use Rattle.kept_run.specs.SourceRun.Requests.{kind_of}
 use Rattle.kept_run.specs.SourceRun.Input.{Meaning}
 use Rattle.kept_run.specs.SourceRun.Leaves.{leaves_of}
 use Rattle.kept_run.specs.TeseoProgramDeclared.prepare.Prepared.{Prepared}
@@ -22,12 +22,6 @@ use Rattle.kept_program.specs.declared.outcome.KeptOutcome.TheVariants.{Of, NotM
 use Rattle.kept_program.specs.Outcomes.{KeepsSome, HasStopped}
 
 -- ---- of a run
-
--- a run by turns is asked for, and not a serialisable one
-pub record IsAskedByTurns (request : RunRequest) : Type 0 where
-  pub asked : IsAsked request
-  pub by_turns : request.threads ≡ None
-  pub plain : request.is_serial ≡ false
 
 -- what was made is of a run of what the sources stand for, all of whose commits are acknowledged
 pub record IsKeptMade (acknowledged : Kind → List Commit → ℕ → Type 0) (request : RunRequest) (m : Meaning) (p : Prepared)

@@ -1,15 +1,17 @@
 //! All that comes before the first output of a run whose commits are kept: the sources are read and parsed, the journal
 //! file is made, the scripts run, and the texts are made.
 
-ghost use Rattle.std.specs.Prelude.{◌≡◌, [], IfOk, IfErr, OnOk, OnErr};
+ghost use Rattle.std.specs.Prelude.{◌≡◌, ◌≤◌, [], false, None, length, All, IfOk, IfErr, OnOk, OnErr};
 ghost use Rattle.journal_disk.specs.Disk.{FaultsStand};
 ghost use Rattle.kept_run.specs.RunKeeper.Keeping.{IsKept, acknowledged_on};
+ghost use Rattle.command_words.specs.Words.{taken_names};
 ghost use Rattle.command_words.specs.Views.{run_request};
-ghost use Rattle.kept_run.specs.SourceRun.Requests.{kind_of};
-ghost use Rattle.kept_run.specs.SourceRun.Parsing.{meaning_of};
-ghost use Rattle.kept_run.specs.TeseoProgram.Prepared.{IsRunInput, NamesAreApart};
+ghost use Rattle.kept_run.specs.SourceRun.Requests.{IsAsked, kind_of};
+ghost use Rattle.kept_run.specs.SourceRun.Input.{Texts, IsAccepted};
+ghost use Rattle.kept_run.specs.SourceRun.Parsing.{meaning_of, AreRunnable};
+ghost use Rattle.kept_run.specs.TeseoProgram.Prepared.{NamesAreApart};
 ghost use Rattle.kept_program.specs.Outcomes.{KeepsSome};
-ghost use Rattle.kept_program.specs.Prepared.{IsAskedByTurns, IsKeptPrepared, IsKeptMade, IsKeptStop, IsUnkept};
+ghost use Rattle.kept_program.specs.Prepared.{IsKeptPrepared, IsKeptMade, IsKeptStop, IsUnkept};
 
 use crate::outcome::KeptOutcome;
 use command_words::RunWords;
@@ -33,7 +35,9 @@ pub fn prepare_kept<R: Threads + Sync, D: Desk, K: Disk>(
     name: &str,
     disk: &mut K,
 ) -> Result<Prepared, KeptOutcome>
-    requires { IsAskedByTurns (run_request words.now) }
+    requires asked { IsAsked (run_request words.now) }
+    requires by_turns { (run_request words.now).threads ≡ None }
+    requires plain { (run_request words.now).is_serial ≡ false }
     ensures prepared { IfOk result (IsKeptPrepared
         (acknowledged_on K.moment K.may_leave K.left_since disk.new) (run_request words.now) (D.files desk.old)) }
     ensures apart { IfOk result NamesAreApart }
@@ -68,8 +72,13 @@ fn make_kept<R: Threads + Sync, K: Disk>(
     disk: &mut K,
     keeper: &mut Keeper,
 ) -> Result<Prepared, KeptRefusal>
-    requires asked { IsAskedByTurns (run_request words.now) }
-    requires given { IsRunInput (run_request words.now) input }
+    requires asked { IsAsked (run_request words.now) }
+    requires by_turns { (run_request words.now).threads ≡ None }
+    requires plain { (run_request words.now).is_serial ≡ false }
+    requires accepted { (texts : Texts) × IsAccepted (run_request words.now) texts (meaning_of input) }
+    requires runnable { AreRunnable (taken_names (run_request words.now)) input.scripts }
+    requires count { length input.scripts ≡ length (run_request words.now).scripts }
+    requires listed { All (λ job. job ≤ length input.scripts) input.schedule }
     requires new { IsKept K.moment K.may_leave K.left_since K.state
         (kind_of (run_request words.now)) [] keeper.old.file disk.old }
     ensures made { IfOk result (IsKeptMade
@@ -86,12 +95,14 @@ fn make_kept<R: Threads + Sync, K: Disk>(
     let kind = kind_of(words);
     let leaves = leaves_of(words.leaves, kind, &input);
     let run = run_scripts_kept(rt, alloc, kind, leaves, input, disk, keeper)?;
-    let summary = summary_of(alloc, run.ran.journal().len() as u64, run.totals)?;
+    let commits = run.ran.journal().len() as u64;
+    let summary = summary_of(alloc, commits, run.totals)?;
     let outputs = outputs_of(rt, alloc, words, &run)?;
+    let is_full = is_full(&run);
     Ok(Prepared {
         outputs,
         summary,
-        is_full: is_full(&run),
+        is_full,
         left: Left::from(run.ran),
     })
 }

@@ -1,5 +1,5 @@
 -- A run whose commits are kept on a graph of the kind that is asked for, and why it came to no end.
-use Rattle.std.proofs.Common.{◌≡◌, ℕ, ◌+◌, ◌≤◌, List, [], ◌∷◌, ◌++◌, length, refl, sym, ◌∙◌, subst, arith, true, false}
+use Rattle.std.proofs.Common.{◌≡◌, ℕ, ◌+◌, ◌≤◌, List, [], ◌∷◌, ◌++◌, length, refl, sym, ◌∙◌, subst, arith}
 use Rattle.graph_model.specs.declared.write.Kind.{Kind}
 use Rattle.graph_model.specs.declared.write.Write.{Write}
 use Rattle.graph_model.specs.declared.journal.Commit.{Commit}
@@ -8,12 +8,11 @@ use Rattle.graph_model.specs.declared.load.LoadRefusal.TheVariants as loads
 use Rattle.graphalytics_io.specs.declared.edges.Edge.{Edge}
 use Rattle.graph_model.specs.OwnerCalls.{Core}
 use Rattle.run_model.specs.Inputs.{Inputs, AreInputs}
-use Rattle.run_model.specs.Laws.{SteppedRunsAreRuns}
 use Rattle.run_model.specs.Jobs.{first_state, load_journal}
 use Rattle.run_model.specs.UnderWay.{IsUnderWay}
 use Rattle.run_model.proofs.SteppedLemmas.{first_is}
 use Rattle.run_keeper.specs.JobRunner.Progress.{Progress}
-use Rattle.run_keeper.specs.JobRunner.Runs.{AreNew, Ends}
+use Rattle.run_keeper.specs.JobRunner.Runs.{AreNew}
 use Rattle.journal_disk.specs.Disk.{DiskState}
 use Rattle.run_keeper.specs.JournalFileDeclared.file.JournalFile.{JournalFile}
 use Rattle.run_keeper.specs.declared.keeper.KeepRefusal.{KeepRefusal}
@@ -21,15 +20,8 @@ use Rattle.run_keeper.specs.declared.keeper.KeepRefusal.TheVariants as keeps
 use Rattle.run_keeper.specs.Keeping.{IsKept, AreAcknowledged, acknowledged_on, KeepsSoFar, StopsSoFar}
 use Rattle.run_keeper.specs.Refusals.{Stops}
 use Rattle.run_keeper.proofs.KeptLemmas.{acknowledged_longer}
-use Rattle.teseo_program.specs.SourceRunDeclared.input.Input.{Input}
-use Rattle.teseo_program.specs.SourceRunDeclared.run.SteppedRun.{SteppedRun}
-use Rattle.teseo_program.specs.SourceRunDeclared.ran.Ran.TheVariants.{Stepped}
-use Rattle.teseo_program.specs.Input.{inputs_of}
-use Rattle.teseo_program.specs.Parsing.{meaning_of}
-use Rattle.teseo_program.specs.Running.{stepped_outputs, HasCounts, IsRefusedLoad}
-use Rattle.teseo_program.proofs.SourceRun.RunLemmas.{left_by_run}
+use Rattle.teseo_program.specs.Running.{IsRefusedLoad}
 use Rattle.kept_run.specs.Refusals.{of_load, of_keep, IsRefusedKept}
-use Rattle.kept_run.specs.Running.{HasRun}
 
 module _ {D : Type 0} (moment : D → ℕ) (may_leave : D → List ℕ → Type 0) (left_since : D → ℕ → List ℕ → Type 0) (state : D → DiskState) (kind : Kind) (old : JournalFile) (before : D) where
   -- of a file with no commit none is lost, and the run has its load
@@ -71,14 +63,6 @@ module _ {D : Type 0} (moment : D → ℕ) (may_leave : D → List ℕ → Type 
       let stops = still inputs [] engine.journal are refl (subst (λ k. IsKept moment may_leave left_since state k [] old before) (sym (are.kind ∙ same)) before_kept) in
       subst (λ s. KeepsSoFar (acknowledged_on moment may_leave left_since now) inputs leaves s new.count) listed_is
       (subst (λ l. KeepsSoFar (acknowledged_on moment may_leave left_since now) inputs l listed new.count) leaves_are stops.0)
-
--- what the settled engine of a run has left
-pub has_run : SteppedRunsAreRuns → (kind : Kind) (leaves : ℕ) (input : Input) → AreInputs (inputs_of kind (meaning_of input)) → (listed : List ℕ) (engine new : Core) (jobs : List Progress) (r : SteppedRun)
-    → listed ≡ input.schedule → engine.leaves ≡ leaves → engine.served ≡ 0 → r.ran.core ≡ new → r.ran.settled ≡ true → r.jobs ≡ jobs → Ends (inputs_of kind (meaning_of input)) listed engine new jobs
-    → HasCounts kind r.ran.core.journal r.totals → HasRun kind leaves input (record { ran = Stepped r.ran; jobs = r.jobs; totals = r.totals })
-has_run runs kind leaves input given listed engine new jobs r same leaves_is zero_served ran settled jobs_are ends counts =
-    let left = left_by_run (inputs_of kind (meaning_of input)) leaves input.schedule listed engine new jobs r same leaves_is zero_served ran settled jobs_are false ends in
-    record { run = runs (inputs_of kind (meaning_of input)) leaves input.schedule (stepped_outputs r) given left.stepped; left = left; counts = counts }
 
 -- a load that is refused calls no disk
 pub load_refused : (kind : Kind) (leaves : ℕ) (ids : List ℕ) (edges : List Edge) (d : DiskState) (refusal : LoadRefusal) → IsRefusedLoad kind leaves ids edges refusal → IsRefusedKept kind leaves ids edges d d (of_load refusal)

@@ -1,5 +1,4 @@
 pub mod Refusals
-pub mod Running
 pub mod RunKeeper
 pub mod SourceRun
 pub mod SourceRunDeclared

@@ -1,11 +1,12 @@
 -- Runs without stated leaves and with room are done, or want memory.
-use Rattle.std.proofs.Common.{◌≡◌, ℕ, suc, ◌*◌, ◌<◌, ◌≤◌, ◌⊎◌, inl, inr, ⊎_elim, List, [], ◌∷◌, ◌++◌, length, refl, sym, ◌∙◌, ap, subst, arith}
-use Rattle.std.specs.Prelude.{Bool, true, false, ◌||◌, slice_get, Some, None, Result, Ok}
+use Rattle.std.proofs.Common.{◌≡◌, ℕ, zero, suc, ◌*◌, ◌<◌, ◌≤◌, ◌⊎◌, inl, inr, ⊎_elim, List, [], ◌∷◌, ◌++◌, length, refl, sym, ◌∙◌, ap, subst, arith}
+use Rattle.std.specs.Prelude.{Bool, true, false, ◌||◌, slice_get, Option, Some, None, Result, Ok, Err}
 use Rattle.std.specs.List.{list_any}
-use Rattle.graph_model.specs.declared.limits.TheConstants.{MAX_LEAVES, SPLIT_ROWS}
+use Rattle.graph_model.specs.declared.limits.TheConstants.{MAX_LEAVES, MAX_LOAD_ROWS, SPLIT_ROWS}
 use Rattle.graph_model.specs.Inserted.{inserted}
 use Rattle.graphalytics_io.specs.declared.edges.Edge.{Edge}
 use Rattle.source_run.specs.GraphFilesDeclared.refusal.Fault.{Fault}
+use Rattle.source_run.specs.GraphFiles.VertexFiles.{vertices_of}
 use Rattle.source_run.specs.GraphFiles.EdgeFiles.{edges_of}
 use Rattle.run_model.specs.declared.command.Command.{Command}
 use Rattle.run_model.specs.declared.answer.Answer.{Answer}
@@ -15,7 +16,7 @@ use Rattle.run_model.specs.AnsweredLines.{AnsweredLine, answered_from, answered_
 use Rattle.run_model.specs.Inputs.{Inputs, Outputs}
 use Rattle.run_model.specs.Run.{answered_scripts, IsRun}
 use Rattle.serial_model.specs.SerialRun.{inputs_read, outputs_read}
-use Rattle.source_run.specs.ScriptLang.Scripts.{files_of}
+use Rattle.source_run.specs.ScriptLang.Scripts.{script_of, files_of}
 use Rattle.source_run.specs.ScriptLangDeclared.refusal.ScriptRefusal.{ScriptRefusal}
 use Rattle.command_words.specs.Words.{RunRequest, taken_names}
 use Rattle.desk_io.specs.Files.{Files}
@@ -26,10 +27,10 @@ use Rattle.teseo_program.specs.declared.outcome.Outcome.{Outcome}
 use Rattle.teseo_program.specs.declared.outcome.Outcome.TheVariants.{Done, Full, LoadFull, BadWords, NotRead, NotAccepted, NoMemory, NotWritten}
 use Rattle.source_run.specs.Requests.{source_names, kind_of, rules_of}
 use Rattle.source_run.specs.Input.{Meaning, Texts, texts_of, AreScripts, IsAccepted, inputs_of}
-use Rattle.source_run.specs.Leaves.{leaves_for, most_rows}
+use Rattle.source_run.specs.Leaves.{leaves_for, leaves_of, most_rows}
 use Rattle.source_run.specs.Running.{IsRunAs}
 use Rattle.teseo_program.specs.Outcomes.{status_of, is_full, shows_full, IsRunOutcome}
-use Rattle.teseo_program.specs.Laws.{AreTold, RunsWithRoomEndWell}
+use Rattle.teseo_program.specs.Laws.{AreTold, HasNoFault, RunsWithRoomEndWell}
 use Rattle.teseo_program.proofs.LawLemmas.{read_told, end_well}
 use Rattle.teseo_program.proofs.RoomLawLemmas.{loads_find_room, runs_find_room}
 use Rattle.teseo_program.proofs.SerialRunLemmas.{rows_read, full_read}

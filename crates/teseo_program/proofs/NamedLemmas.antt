@@ -1,6 +1,6 @@
 -- A source that is refused is the one that is named.
 use Rattle.std.proofs.Common.{◌≡◌, ℕ, zero, suc, ◌<◌, ◌≤◌, List, [], ◌∷◌, ◌++◌, length, take, refl, sym, ◌∙◌, ap, subst, arith, inl, inr}
-use Rattle.std.specs.Prelude.{◌⊎◌, true, false, nat_lt, IfSome, slice_get, Option, Some, None, Result, Ok, Err}
+use Rattle.std.specs.Prelude.{◌⊎◌, Bool, true, false, nat_lt, IfSome, slice_get, Option, Some, None, Result, Ok, Err}
 use Rattle.std.specs.List.{AllZip}
 use Rattle.std.proofs.lemmas.Bool.Decides.{nat_tests}
 use Rattle.graph_model.specs.declared.limits.TheConstants.{MAX_SOURCE_BYTES, MAX_LOAD_ROWS}
@@ -12,6 +12,7 @@ use Rattle.run_model.specs.declared.command.Command.{Command}
 use Rattle.source_run.specs.GraphFilesDeclared.refusal.Fault.{Fault}
 use Rattle.source_run.specs.GraphFiles.VertexFiles.{vertices_of}
 use Rattle.source_run.specs.GraphFiles.EdgeFiles.{edges_of}
+use Rattle.graphalytics_io.specs.declared.edges.Edge.{Edge}
 use Rattle.source_run.specs.ScriptLangDeclared.refusal.ScriptRefusal.{ScriptRefusal}
 use Rattle.source_run.specs.ScriptLangDeclared.refusal.ScriptRefusal.TheVariants as script_refusals
 use Rattle.source_run.specs.ScriptLangDeclared.refusal.ScheduleRefusal.{ScheduleRefusal}
@@ -25,7 +26,7 @@ use Rattle.teseo_program.specs.declared.outcome.Outcome.{Outcome}
 use Rattle.teseo_program.specs.declared.outcome.Outcome.TheVariants.{Done, Full, LoadFull, BadWords, NotRead, NotAccepted, NoMemory, NotWritten}
 use Rattle.teseo_program.specs.declared.left.Left.{Left}
 use Rattle.source_run.specs.Input.{Meaning, Texts, texts_of, HasGraphFault, HasScheduleFault, HasScriptFault, IsAccepted, IsFaultBehind, IsNotAccepted}
-use Rattle.teseo_program.specs.Outcomes.{status_of, IsRunOutcome}
+use Rattle.teseo_program.specs.Outcomes.{status_of, AreOfRun, IsRunOutcome}
 use Rattle.teseo_program.specs.Laws.{IsTold, AreTold, Stands, IsLong, FaultySourcesAreNamed, LongSourcesAreNamed}
 use Rattle.teseo_program.proofs.LawLemmas.{stands_still, read_told, told_at, not_too_long, no_graph_fault, none_refused}
 

@@ -1,6 +1,6 @@
 -- What a serialisable run keeps where its refused commits are read as aborts.
 use Rattle.std.proofs.Common.{◌≡◌, ℕ, suc, ◌+◌, List, [], ◌∷◌, ◌++◌, length, refl, sym, ◌∙◌, ap, subst, cond}
-use Rattle.std.specs.Prelude.{Bool, true, false, ◌||◌, sum_by, slice_get, Some}
+use Rattle.std.specs.Prelude.{Bool, true, false, ◌||◌, ◌&&◌, sum_by, slice_get, Some}
 use Rattle.std.specs.List.{flat_map, list_any}
 use Rattle.graph_model.proofs.TestLemmas.{both_of}
 use Rattle.graph_model.specs.declared.write.Kind.{Kind}
@@ -11,7 +11,7 @@ use Rattle.run_model.specs.declared.command.Command.TheVariants as commands
 use Rattle.run_model.specs.declared.answer.Answer.{Answer}
 use Rattle.run_model.specs.declared.answer.Answer.TheVariants as answers
 use Rattle.run_model.specs.Commands.{next_txn}
-use Rattle.run_model.specs.AnsweredLines.{AnsweredLine, answered_from, answered_lines}
+use Rattle.run_model.specs.AnsweredLines.{AnsweredLine, effect, answered_from, answered_lines}
 use Rattle.run_model.specs.Inputs.{Inputs, Outputs}
 use Rattle.run_model.specs.Run.{answered_scripts}
 use Rattle.run_model.proofs.SetLemmas.{sum_cons}

@@ -1,5 +1,5 @@
 -- What is made before the first output is created, and why nothing is.
-use Rattle.std.specs.Prelude.{◌≡◌, ◌≢◌, ℕ, ◌*◌, ◌≤◌, Bool, true, false, List, [], length, All, AllPairs}
+use Rattle.std.specs.Prelude.{◌≡◌, ◌≢◌, ℕ, ◌*◌, ◌≤◌, Bool, true, false, List, [], AllPairs}
 use Rattle.graph_model.specs.declared.limits.TheConstants.{MAX_SOURCE_BYTES, SPLIT_ROWS}
 use Rattle.graph_model.specs.declared.load.LoadRefusal.{LoadRefusal}
 use Rattle.graph_model.specs.declared.load.LoadRefusal.TheVariants as refusals
@@ -9,14 +9,12 @@ use Rattle.run_model.specs.Inputs.{Outputs}
 use Rattle.desk_io.specs.Outputs.{NamedText, names_of, WritesAll, FailsAtPlace}
 use Rattle.desk_io.specs.Files.{Files}
 use Rattle.desk_io.specs.Sources.{AreRead, IsReadStop}
-use Rattle.command_words.specs.Words.{RunRequest, MakeRequest, taken_names}
+use Rattle.command_words.specs.Words.{RunRequest, MakeRequest}
 use Rattle.source_run.specs.Requests.{source_names, report_names, kind_of}
 use Rattle.teseo_program.specs.declared.outcome.Outcome.{Outcome}
 use Rattle.teseo_program.specs.declared.outcome.Outcome.TheVariants.{Done, Full, LoadFull, BadWords, NotRead, NotAccepted, NoMemory, NotWritten}
 use Rattle.teseo_program.specs.declared.prepare.Prepared.{Prepared}
-use Rattle.source_run.specs.declared.input.Input.{Input}
-use Rattle.source_run.specs.Input.{Meaning, Texts, texts_of, IsAccepted, inputs_of}
-use Rattle.source_run.specs.Parsing.{AreRunnable, meaning_of}
+use Rattle.source_run.specs.Input.{Meaning, texts_of, IsAccepted, inputs_of}
 use Rattle.source_run.specs.Leaves.{leaves_of}
 use Rattle.source_run.specs.declared.ran.Ran.{Ran}
 use Rattle.source_run.specs.Running.{IsRunAs, IsLeftOf}
@@ -42,14 +40,6 @@ abbrev pub AreAccepted : RunRequest → Files → Meaning → Type 0
 AreAccepted request files m =
     (sources : List (List ℕ)) × AreRead MAX_SOURCE_BYTES files (source_names request) sources
     × IsAccepted request (texts_of request sources) m
-
--- What was read and parsed stands for this input: its scripts can run, one for each name, and the schedule names no
--- other.
-pub record IsRunInput (request : RunRequest) (input : Input) : Type 0 where
-  pub accepted : (texts : Texts) × IsAccepted request texts (meaning_of input)
-  pub runnable : AreRunnable (taken_names request) input.scripts
-  pub count : length input.scripts ≡ length request.scripts
-  pub listed : All (λ job. job ≤ length input.scripts) input.schedule
 
 -- ---- what was made
 

@@ -2,4 +2,3 @@
 pub use Rattle.source_run.specs.declared.fault
 pub use Rattle.source_run.specs.declared.input
 pub use Rattle.source_run.specs.declared.ran
-pub use Rattle.source_run.specs.declared.run

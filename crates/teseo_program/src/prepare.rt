@@ -1,11 +1,13 @@
 //! All that comes before the first output is created: the sources are read and parsed, the scripts run,
 //! and the texts are made.
 
-ghost use Rattle.std.specs.Prelude.{◌≡◌, IfOk, IfErr, OnOk};
+ghost use Rattle.std.specs.Prelude.{◌≡◌, ◌≤◌, length, All, IfOk, IfErr, OnOk};
+ghost use Rattle.command_words.specs.Words.{taken_names};
 ghost use Rattle.command_words.specs.Views.{run_request};
 ghost use Rattle.source_run.specs.Requests.{IsAsked, kind_of};
-ghost use Rattle.source_run.specs.Parsing.{meaning_of};
-ghost use Rattle.teseo_program.specs.Prepared.{IsUnprepared, AreAccepted, IsPreparedOf, IsMadeOf, IsLoadStop, IsRunInput, NamesAreApart};
+ghost use Rattle.source_run.specs.Input.{Texts, IsAccepted};
+ghost use Rattle.source_run.specs.Parsing.{meaning_of, AreRunnable};
+ghost use Rattle.teseo_program.specs.Prepared.{IsUnprepared, AreAccepted, IsPreparedOf, IsMadeOf, IsLoadStop, NamesAreApart};
 
 use crate::left::Left;
 use crate::outcome::Outcome;
@@ -65,7 +67,9 @@ pub fn read_input<R: Threads + Sync, D: Desk>(
 ) -> Result<Input, Outcome>
     requires { IsAsked (run_request words.now) }
     ensures accepted { IfOk result (λ input. AreAccepted (run_request words.now) (D.files desk.old) (meaning_of input)) }
-    ensures given { IfOk result (IsRunInput (run_request words.now)) }
+    ensures runnable { IfOk result (λ input. AreRunnable (taken_names (run_request words.now)) input.scripts) }
+    ensures count { IfOk result (λ input. length input.scripts ≡ length (run_request words.now).scripts) }
+    ensures listed { IfOk result (λ input. All (λ job. job ≤ length input.scripts) input.schedule) }
     ensures ok { OnOk result (D.files desk.new ≡ D.files desk.old) }
     ensures refused { IfErr result (IsUnprepared (run_request words.now) (D.files desk.old) (D.files desk.new)) }
 {
@@ -87,7 +91,10 @@ fn make<R: Threads + Wait + Sync, G: Gate>(
     gate: &G,
 ) -> Result<Prepared, LoadRefusal>
     requires asked { IsAsked (run_request words.now) }
-    requires given { IsRunInput (run_request words.now) input }
+    requires accepted { (texts : Texts) × IsAccepted (run_request words.now) texts (meaning_of input) }
+    requires runnable { AreRunnable (taken_names (run_request words.now)) input.scripts }
+    requires count { length input.scripts ≡ length (run_request words.now).scripts }
+    requires listed { All (λ job. job ≤ length input.scripts) input.schedule }
     ensures made { IfOk result (IsMadeOf (run_request words.now) (meaning_of input)) }
     ensures apart { IfOk result NamesAreApart }
     ensures refused { IfErr result (IsLoadStop (run_request words.now) (meaning_of input)) }

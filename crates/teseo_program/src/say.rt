@@ -2,6 +2,7 @@
 //!
 //! 1. Saying takes no memory, so that running out of memory can be said too.
 
+ghost use Rattle.std.specs.Prelude.{◌≡◌, decimal};
 ghost use Rattle.teseo_program.specs.Outcomes.{OnlySays, said_text, text_line, line_text, fault_text};
 
 use crate::outcome::Outcome;

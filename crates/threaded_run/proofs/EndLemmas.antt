@@ -1,10 +1,11 @@
 -- What is left of seats once their scripts have run.
-use Rattle.std.proofs.Common.{◌≡◌, ℕ, zero, suc, ◌+◌, ◌≤◌, List, [], ◌∷◌, length, map, refl, sym, ◌∙◌, ap, subst, arith}
+use Rattle.std.proofs.Common.{◌≡◌, ℕ, zero, suc, ◌+◌, ◌<◌, ◌≤◌, List, [], ◌∷◌, ◌++◌, length, map, refl, sym, ◌∙◌, ap, subst, arith}
 use Rattle.std.proofs.lemmas.List.{length-map}
-use Rattle.std.specs.Prelude.{Bool, true, false, ◌||◌, Some, None, slice_get}
+use Rattle.std.specs.Prelude.{Bool, true, false, ◌||◌, not, ◌&&◌, Some, None, slice_get}
 use Rattle.std.specs.List.{AllByRecursion, AllZip}
 use Rattle.graph_model.specs.declared.journal.Commit.{Commit}
 use Rattle.graph_model.specs.Account.{Account}
+use Rattle.graph_model.specs.AccountSteps.{ReadsBy}
 use Rattle.graph_model.proofs.PlaceLemmas.{some_eq}
 use Rattle.run_model.specs.declared.command.Command.{Command}
 use Rattle.run_model.specs.Inputs.{Inputs}
@@ -15,14 +16,14 @@ use Rattle.thread_runner.specs.JobRunner.Progress.{Progress, has_given_up, is_ov
 use Rattle.thread_runner.specs.ByAccount.{TurnsBy, RanBy}
 use Rattle.thread_runner.specs.Driving.{HasRun, gave_up, some_gave_up}
 use Rattle.thread_runner.proofs.NewLemmas.{new_runs}
-use Rattle.shared_runs.specs.Closing.{HasLoaded, HasRunOn, HaveRunOn}
+use Rattle.shared_runs.specs.Closing.{HasLoaded, HasRunOn, HaveRunOn, account_in}
 use Rattle.rebalance_service.specs.StoreRelation.Passes.{account_of as state_account}
 use Rattle.rebalance_service.specs.StoreRuleDeclared.store.Store.{Store}
 use Rattle.rebalance_service.specs.PassSteps.Passes.{state_of}
 use Rattle.rebalance_service.specs.SharedStoreDeclared.pass.Pass.{Pass}
 use Rattle.rebalance_service.specs.SharedStore.Passes.{IsIdle, account_of}
-use Rattle.rebalance_service.specs.WorkerCalls.Ready.{IsReady}
-use Rattle.rebalance_service.proofs.WorkerCalls.ReadyLemmas.{idle_here}
+use Rattle.rebalance_service.specs.Ready.{IsReady}
+use Rattle.rebalance_service.proofs.ReadyLemmas.{idle_here}
 use Rattle.threaded_run.specs.Running.{CanRun}
 use Rattle.threaded_run.specs.Seats.{AreIdleFrom, AreSeated, IsSeated}
 use Rattle.threaded_run.specs.Ended.{HasEnded, HaveEnded}

@@ -1,14 +1,16 @@
 -- The passes of a store that has a load: pass 0 has made it, and the others have begun nothing.
-use Rattle.std.proofs.Common.{◌≡◌, ℕ, suc, ◌+◌, ◌≤◌, List, [], ◌∷◌, ◌++◌, length, refl, sym, ◌∙◌, ap, subst, arith, length-append}
+use Rattle.std.proofs.Common.{◌≡◌, ℕ, zero, suc, ◌+◌, ◌<◌, ◌≤◌, List, [], ◌∷◌, ◌++◌, length, refl, sym, ◌∙◌, ap, subst, arith, length-append}
 use Rattle.std.proofs.lemmas.Bool.Decides.{nat_tests}
-use Rattle.std.specs.Prelude.{◌==◌, false, cond, Some, slice_get}
+use Rattle.std.specs.Prelude.{◌==◌, false, cond, Some, None, slice_get}
+use mathlib.Core.List.{IsPrefix}
 use Rattle.graph_model.specs.declared.journal.Commit.{Commit}
 use Rattle.graph_model.specs.declared.write.Write.{Write}
-use Rattle.graph_model.specs.Account.{Account}
+use Rattle.graph_model.specs.Account.{Account, IsValid}
 use Rattle.graph_model.specs.AccountSteps.{ReadsBy}
 use Rattle.run_model.specs.Inputs.{Inputs}
 use Rattle.run_model.specs.Run.{load_stamp}
 use Rattle.side_runs.specs.ByAccount.{IsUnbegun}
+use Rattle.side_runs.specs.SideBySide.{made_by_load}
 use Rattle.shared_runs.specs.Closing.{HasLoaded}
 use Rattle.txn_manager.specs.declared.config.Config.{Config}
 use Rattle.rebalance_service.specs.StoreRelation.Loads.{load_commit}
@@ -17,6 +19,7 @@ use Rattle.rebalance_service.specs.StoreRelation.Passes.{account_of as state_acc
 use Rattle.rebalance_service.specs.StoreRuleDeclared.store.Store.{Store}
 use Rattle.rebalance_service.specs.PassSteps.Passes.{state_of}
 use Rattle.rebalance_service.specs.SharedStoreDeclared.pass.Pass.{Pass}
+use Rattle.rebalance_service.specs.SharedStore.Ends.{AreIdle}
 use Rattle.rebalance_service.specs.SharedStore.Loading.{AreLoaded, first_state}
 use Rattle.rebalance_service.specs.SharedStore.Passes.{IsIdle, account_of}
 use Rattle.threaded_run.specs.Running.{CanRun}

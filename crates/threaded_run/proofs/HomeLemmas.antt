@@ -1,6 +1,7 @@
 -- What the run on a store asks of its parts, from what it is given.
-use Rattle.std.proofs.Common.{◌≡◌, ℕ, suc, ◌+◌, List, [], ◌∷◌, ◌++◌, length, map, refl, sym, ◌∙◌, ap, subst, arith}
-use Rattle.std.specs.Prelude.{false, Some, slice_get}
+use Rattle.std.proofs.Common.{◌≡◌, ℕ, zero, suc, ◌+◌, ◌<◌, ◌≤◌, List, [], ◌∷◌, ◌++◌, length, map, refl, sym, ◌∙◌, ap, subst, arith}
+use Rattle.std.proofs.lemmas.List.{length-map}
+use Rattle.std.specs.Prelude.{false, Some, None, slice_get}
 use Rattle.std.specs.List.{AllByRecursion, AllZip}
 use Rattle.graph_model.specs.declared.journal.Commit.{Commit}
 use Rattle.graph_model.specs.Account.{Account}
@@ -8,16 +9,17 @@ use Rattle.graph_model.specs.AccountSteps.{ReadsBy}
 use Rattle.run_model.specs.declared.command.Command.{Command}
 use Rattle.run_model.specs.Inputs.{Inputs}
 use Rattle.run_model.proofs.ListLemmas.{all_from_places}
-use Rattle.thread_runner.specs.JobRunner.Progress.{Progress, IsReadyBy}
+use Rattle.thread_runner.specs.JobRunner.Progress.{Progress, has_given_up, is_over, IsReadyBy}
 use Rattle.thread_runner.specs.Driving.{HasRun, IsSeat, some_gave_up}
 use Rattle.shared_runs.specs.Closing.{HaveRunOn}
 use Rattle.rebalance_service.specs.StoreRuleDeclared.store.Store.{Store}
 use Rattle.rebalance_service.specs.SharedStoreDeclared.pass.Pass.{Pass}
 use Rattle.rebalance_service.specs.SharedStore.Loading.{AreLoaded}
 use Rattle.rebalance_service.specs.SharedStore.Passes.{IsIdle, account_of}
-use Rattle.rebalance_service.specs.WorkerCalls.Ready.{IsReady}
-use Rattle.rebalance_service.proofs.WorkerCalls.ReadyLemmas.{idle_here, start_none}
-use Rattle.threaded_run.specs.Seats.{AreIdleFrom, AreSeated, AreSeats, CanRunBefore, CanRunOn, CanSeat}
+use Rattle.rebalance_service.specs.Ready.{IsReady}
+use Rattle.rebalance_service.proofs.ReadyLemmas.{idle_here, start_none}
+use Rattle.threaded_run.specs.Running.{CanRun}
+use Rattle.threaded_run.specs.Seats.{AreIdleFrom, AreSeated, CanRunBefore, CanRunOn}
 use Rattle.threaded_run.specs.Ended.{HaveEnded}
 use Rattle.threaded_run.proofs.FreshLemmas.{AreUnused, loader_idle, loader_number, loader_loaded, others_unused, unused_front, loaded_on}
 use Rattle.threaded_run.proofs.PlaceLemmas.{in_front}
@@ -65,6 +67,9 @@ idle_still inputs store list others scripts before =
     let there = in_front list others k pass at in
     (all.idle k pass there, all.numbers k pass there ∙ omega arith)))
 
+pub some_passes : (inputs : Inputs) (store : Store) (list others : List Pass) (scripts : List (List Command)) → CanRunBefore inputs store list others scripts → 0 < length list
+some_passes inputs store list others scripts can = let count = can.count in omega (arith, count)
+
 module _ (inputs : Inputs) (store : Store) (list others : List Pass) (scripts : List (List Command)) (before : CanRunBefore inputs store list others scripts) (loader : Pass) (rest : List Pass)
     (split : list ≡ loader ∷ rest) where
   abbrev can : CanRunOn inputs store (list ++ others) scripts
@@ -73,9 +78,22 @@ module _ (inputs : Inputs) (store : Store) (list others : List Pass) (scripts : 
   are_loaded : AreLoaded inputs.load store (loader ∷ rest ++ others)
   are_loaded = subst (λ xs. AreLoaded inputs.load store (xs ++ others)) split can.loaded
 
-  first_idle : IsIdle store loader
+  pub first_idle : IsIdle store loader
   unfolding are_loaded
   first_idle = loader_idle store inputs.load loader (rest ++ others) are_loaded
+
+  pub rest_idle : AllByRecursion (IsIdle store) rest
+  unfolding are_loaded
+  rest_idle = all_from_places (IsIdle store) rest (λ k pass at. are_loaded.idle.idle (suc k) pass (in_front rest others k pass at))
+
+  pub rest_count : length rest ≡ length scripts
+  rest_count =
+      let count = before.count in
+      let whole : length list ≡ suc (length rest) = ap length split in
+      omega (arith, count, whole)
+
+  pub few : length scripts < 4294967295
+  few = let same : length scripts ≡ length inputs.scripts = ap length can.scripts_are in let most = can.can.inputs_are.count in omega (arith, same, most)
 
   -- what pass 0 has seen has the load
   unused : AreUnused store 1 rest
@@ -95,7 +113,7 @@ module _ (inputs : Inputs) (store : Store) (list others : List Pass) (scripts : 
       ready_home xs at.1 ready.1,
     )
 
-    are_ready : (xs : List (Progress × W)) → AreHome home pass_of store xs → AreSeated store (account_of store loader).seen 1 scripts rest (bare home pass_of store xs) → AllByRecursion (IsSeat acc) xs
+    pub are_ready : (xs : List (Progress × W)) → AreHome home pass_of store xs → AreSeated store (account_of store loader).seen 1 scripts rest (bare home pass_of store xs) → AllByRecursion (IsSeat acc) xs
     unfolding are_loaded unused
     are_ready xs at seated =
         ready_home xs at
@@ -147,7 +165,7 @@ module _ (inputs : Inputs) (store : Store) (list others : List Pass) (scripts : 
       firsts [] = refl
       firsts (z ∷ zs) = ap (λ js. z.0 ∷ js) (firsts zs)
 
-      idle_again : (passes : List Pass) → passes ≡ service ∷ map (λ z. pass_of z.1) ys → AreIdleFrom store 0 passes × (length passes ≡ length list)
+      pub idle_again : (passes : List Pass) → passes ≡ service ∷ map (λ z. pass_of z.1) ys → AreIdleFrom store 0 passes × (length passes ≡ length list)
       unfolding ended service_idle service_zero
       idle_again passes are =
           let same : passes ≡ service ∷ map (λ y. y.1) (bare home pass_of store ys) = are ∙ ap (λ ps. service ∷ ps) (sym (seconds ys)) in
@@ -158,7 +176,7 @@ module _ (inputs : Inputs) (store : Store) (list others : List Pass) (scripts : 
             omega (arith, long, all, count),
           )
 
-      run_again : (passes : List Pass) (jobs : List Progress) → passes ≡ service ∷ map (λ z. pass_of z.1) ys → jobs ≡ map (λ z. z.0) ys → some_gave_up xs ys ≡ false
+      pub run_again : (passes : List Pass) (jobs : List Progress) → passes ≡ service ∷ map (λ z. pass_of z.1) ys → jobs ≡ map (λ z. z.0) ys → some_gave_up xs ys ≡ false
           → HaveRunOn inputs store.accounts.config passes jobs
       unfolding are_loaded ended service_idle service_zero bare_ran
       run_again passes jobs are jobs_are none =
@@ -167,37 +185,3 @@ module _ (inputs : Inputs) (store : Store) (list others : List Pass) (scripts : 
           (have_run_on inputs store can.can service service_idle service_zero (bare home pass_of store ys) ended
           (loaded_on inputs.load (account_of store loader) (account_of store service) (loader_loaded store inputs.load loader (rest ++ others) are_loaded) served)
           (none_given store (account_of store loader).seen 1 scripts rest (bare home pass_of store xs) (bare home pass_of store ys) seated bare_ran (gave_bare home pass_of store xs ys ∙ none)))
-
--- ---- the same of the seats that were made
-
-module _ (inputs : Inputs) (store : Store) (list others : List Pass) (scripts : List (List Command)) (before : CanRunBefore inputs store list others scripts) where
-  pub can_seat : CanSeat store list scripts
-  can_seat =
-      let same : length scripts ≡ length inputs.scripts = ap length before.can.scripts_are in
-      let most = before.can.can.inputs_are.count in
-      record {
-        idle = all_from_places (IsIdle store) list (λ k pass at. before.can.loaded.idle.idle k pass (in_front list others k pass at));
-        count = before.count;
-        few = omega (arith, same, most);
-      }
-
-  module _ {W : Type 0} (home : W → Store) (pass_of : W → Pass) (first : Pass) (xs : List (Progress × W)) (at : AreHome home pass_of store xs)
-      (seats : AreSeats store list scripts first (bare home pass_of store xs)) where
-    pub seats_are_ready : AllByRecursion (IsSeat (λ w. account_of (home w) (pass_of w))) xs
-    seats_are_ready = are_ready inputs store list others scripts before seats.loader seats.rest seats.split home pass_of xs at seats.seated
-
-    pub many_seats : length xs ≡ length scripts
-    many_seats = (seats_count store _ 1 scripts seats.rest (λ x. (x.0, pass_of x.1)) xs seats.seated).0
-
-    module _ (last : Pass) (ready : IsReady store last) (reads : ReadsBy (account_of store first) (account_of store last)) (ys : List (Progress × W))
-        (ran : AllZip (HasRun (λ w. account_of (home w) (pass_of w))) xs ys) (back : AllByRecursion (λ y. IsReady store (pass_of y.1) × (home y.1 ≡ store)) ys) where
-      served : ReadsBy (account_of store seats.loader) (account_of store last)
-      served = subst (λ (a : Account). ReadsBy a (account_of store last)) seats.account reads
-
-      pub all_idle_again : (passes : List Pass) → passes ≡ last ∷ map (λ z. pass_of z.1) ys → AreIdleFrom store 0 passes × (length passes ≡ length list)
-      all_idle_again passes are = idle_again inputs store list others scripts before seats.loader seats.rest seats.split home pass_of last ready served xs ys at seats.seated ran back passes are
-
-      pub have_run_again : (passes : List Pass) (jobs : List Progress) → passes ≡ last ∷ map (λ z. pass_of z.1) ys → jobs ≡ map (λ z. z.0) ys → some_gave_up xs ys ≡ false
-          → HaveRunOn inputs store.accounts.config passes jobs
-      have_run_again passes jobs are jobs_are none =
-          run_again inputs store list others scripts before seats.loader seats.rest seats.split home pass_of last ready served xs ys at seats.seated ran back passes jobs are jobs_are none

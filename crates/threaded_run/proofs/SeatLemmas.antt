@@ -1,20 +1,21 @@
 -- Seats: the job of each script beside a pass that has met pass 0.
-use Rattle.std.proofs.Common.{◌≡◌, ℕ, ◌+◌, ◌<◌, ◌≤◌, List, [], ◌∷◌, ◌++◌, length, map, sym, ◌∙◌, ap, subst, arith}
+use Rattle.std.proofs.Common.{◌≡◌, ℕ, zero, suc, ◌+◌, ◌<◌, ◌≤◌, List, [], ◌∷◌, ◌++◌, length, map, refl, sym, ◌∙◌, ap, subst, arith}
 use Rattle.std.proofs.lemmas.List.{map-append, append-nil, append_assoc}
-use Rattle.std.specs.Prelude.{false, Some, slice_index_or, remove}
+use Rattle.std.specs.Prelude.{false, Some, slice_get, slice_index_or, remove}
 use Rattle.std.specs.List.{AllByRecursion}
 use Rattle.graph_model.specs.declared.journal.Commit.{Commit}
+use Rattle.graph_model.specs.Account.{Account}
 use Rattle.run_model.specs.declared.command.Command.{Command}
 use Rattle.run_model.specs.Inputs.{Inputs}
 use Rattle.run_model.specs.Commands.{begun_by, IsScript}
 use Rattle.run_model.specs.Run.{load_stamp}
 use Rattle.run_model.proofs.ListLemmas.{all_from_places}
-use Rattle.thread_runner.specs.JobRunner.Progress.{Progress, IsReadyBy}
+use Rattle.thread_runner.specs.JobRunner.Progress.{Progress, new_progress, is_over, IsReadyBy}
 use Rattle.thread_runner.specs.Driving.{IsSeat}
 use Rattle.thread_runner.proofs.NewLemmas.{new_ready}
 use Rattle.rebalance_service.specs.StoreRuleDeclared.store.Store.{Store}
 use Rattle.rebalance_service.specs.SharedStoreDeclared.pass.Pass.{Pass}
-use Rattle.rebalance_service.specs.SharedStore.Passes.{account_of}
+use Rattle.rebalance_service.specs.SharedStore.Passes.{IsIdle, account_of}
 use Rattle.threaded_run.specs.Running.{CanRun}
 use Rattle.threaded_run.specs.Seats.{AreSeated, IsSeated}
 use Rattle.threaded_run.proofs.FreshLemmas.{AreUnused, unbegun_met}

@@ -1,8 +1,8 @@
 -- Passes that are lent to workers, each beside the job of its script.
-use Rattle.std.specs.Prelude.{◌≡◌, ℕ, ◌+◌, ◌-◌, ◌^◌, ◌<◌, List, [], ◌∷◌, ◌++◌, length}
-use Rattle.std.specs.List.{AllByRecursion}
+use Rattle.std.specs.Prelude.{◌≡◌, ℕ, ◌+◌, List, [], ◌∷◌, ◌++◌, length}
 use mathlib.Core.List.{IsPrefix}
 use Rattle.graph_model.specs.declared.journal.Commit.{Commit}
+use Rattle.graph_model.specs.Account.{Account}
 use Rattle.graph_model.specs.AccountSteps.{ReadsBy}
 use Rattle.run_model.specs.declared.command.Command.{Command}
 use Rattle.thread_runner.specs.JobRunner.Progress.{Progress, new_progress}
@@ -31,17 +31,6 @@ AreIdleFrom store number [] = Unit {0}
 AreIdleFrom store number (pass ∷ passes) =
     IsIdle store pass × (pass.seats.number ≡ number) × AreIdleFrom store (number + 1) passes
 
--- passes without a transaction: one for each script, and one more before them
-pub record CanSeat (store : Store) (list : List Pass) (scripts : List (List Command)) : Type 0 where
-  pub idle : AllByRecursion (IsIdle store) list
-  pub count : length list ≡ length scripts + 1
-  pub few : length scripts < 2 ^ 32 - 1
-
--- others have met this pass, and it is as it was
-pub record IsStillIdle (store : Store) (old new : Pass) : Type 0 where
-  pub idle : IsIdle store new
-  pub account : account_of store new ≡ account_of store old
-
 -- a pass that is as it was, but that it has seen so much at least
 pub record HasMet (store : Store) (seen : List Commit) (old new : Pass) : Type 0 where
   pub idle : IsIdle store new
@@ -63,12 +52,3 @@ AreSeated store seen number (script ∷ scripts) [] xs = ⊥
 AreSeated store seen number (script ∷ scripts) (pass ∷ passes) [] = ⊥
 AreSeated store seen number (script ∷ scripts) (pass ∷ passes) (x ∷ xs) =
     IsSeated store seen number script pass x.0 x.1 × AreSeated store seen (number + 1) scripts passes xs
-
--- Each script is seated on the pass of its number in the list, which has met the first one; and that one serves.
-pub record AreSeats (store : Store) (list : List Pass) (scripts : List (List Command)) (service : Pass)
-    (seats : List (Progress × Pass)) : Type 0 where
-  pub loader : Pass
-  pub rest : List Pass
-  pub split : list ≡ loader ∷ rest
-  pub account : account_of store service ≡ account_of store loader
-  pub seated : AreSeated store (account_of store loader).seen 1 scripts rest seats

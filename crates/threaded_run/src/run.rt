@@ -4,7 +4,6 @@
 
 ghost use Rattle.std.specs.Prelude.{◌≡◌, ◌<◌, ◌≤◌, IfErr, IfOk, false, length};
 ghost use Rattle.graph_model.specs.History.{graph_at};
-ghost use Rattle.graph_model.specs.declared.limits.TheConstants.{MAX_THREADS};
 ghost use Rattle.run_model.specs.Run.{IsRun};
 ghost use Rattle.shared_runs.specs.Closing.{LeavesRun, outputs_with};
 ghost use Rattle.rebalance_service.specs.SharedStore.Ends.{AreEnds};
@@ -50,7 +49,7 @@ pub fn run_on_threads<R: Threads + Wait + Sync, G: Gate>(
 ) -> Result<ThreadedRun, LoadRefusal>
     requires can { CanRun (inputs_on config load scripts) config }
     requires fits { too_large config ≡ false }
-    requires workers { (0 < workers) × (workers ≤ MAX_THREADS) }
+    requires workers { (0 < workers) × (workers ≤ 32) }
     ensures run { IfOk result (λ r. IsRun (inputs_on config load scripts) config.leaves
         (outputs_with r.closed.journal r.jobs)) }
     ensures left { IfOk result (λ r. LeavesRun (inputs_on config load scripts) config.leaves

@@ -2,12 +2,12 @@
 //!
 //! 1. Pass 0 has the load and the service; script n runs on pass n.
 
-ghost use Rattle.std.specs.Prelude.{◌≡◌, ◌<◌, ◌≤◌, ◌+◌, ◌++◌, [], ◌∷◌, Some, length, map};
+ghost use Rattle.std.specs.Prelude.{◌≡◌, ◌<◌, ◌≤◌, ◌+◌, ◌-◌, ◌++◌, ◌^◌, [], ◌∷◌, Some, length, map};
 ghost use Rattle.std.specs.List.{AllByRecursion};
 ghost use Rattle.std.specs.Vec.{vec_capacity};
 ghost use Rattle.rebalance_service.specs.SharedStore.Passes.{IsIdle, account_of};
-ghost use Rattle.rebalance_service.specs.WorkerCalls.Ready.{IsReady};
-ghost use Rattle.threaded_run.specs.Seats.{AreSeated, AreSeats, CanSeat, IsSeated, IsStillIdle};
+ghost use Rattle.rebalance_service.specs.Ready.{IsReady};
+ghost use Rattle.threaded_run.specs.Seats.{AreSeated, IsSeated};
 
 use rebalance_service::below::{Pass, Store, meet};
 use rebalance_service::{Home, IdlePasses, Worker};
@@ -15,49 +15,11 @@ use run_model::Script;
 use std::alloc::Global;
 use std::sync::{Mutex, Wait};
 use std::thread::Threads;
-use thread_runner::JobsOver;
 use thread_runner::below::Job;
 
-/// Seats each script on a pass of its own, which meets pass 0. That one serves from now on. The jobs are numbered from 1
-/// in the order of the scripts. Takes no memory.
+/// Takes a pass for each script, which meets pass 0. The jobs are numbered from 1 in the order of the scripts. Takes no
+/// memory.
 pub(crate) fn seat_all<'a, R: Threads + Wait + Sync, H: Home>(
-    rt: &'a R,
-    alloc: Global,
-    store: &'a Store,
-    passes: &mut Vec<Pass>,
-    pool: &'a Mutex<IdlePasses<H>>,
-    scripts: Vec<Script>,
-    mut seats: Vec<(Job, Worker<'a, R, H>)>,
-) -> JobsOver<Worker<'a, R, H>>
-    requires home { H.home ≡ Some store.now }
-    requires can { CanSeat store.now passes.old.items scripts.items }
-    requires room { (seats.items ≡ []) × (length scripts.items ≤ vec_capacity seats) }
-    ensures seated { AreSeats store.now passes.old.items scripts.items result.service.pass
-        (map (λ x. (x.0, x.1.pass)) result.jobs.items) }
-    ensures store { (result.service.store.now ≡ store.now)
-        × AllByRecursion (λ x. x.1.store.now ≡ store.now) result.jobs.items }
-    ensures passes { (passes.new.items ≡ []) × (vec_capacity passes.new ≡ vec_capacity passes.old) }
-{
-    // Pass 0 has made the load.
-    let mut loader = passes.remove(0);
-    seat_scripts(
-        rt,
-        alloc,
-        store,
-        &mut loader,
-        passes,
-        pool,
-        scripts,
-        &mut seats,
-    );
-    JobsOver {
-        jobs: seats,
-        service: Worker::new(rt, store, loader),
-    }
-}
-
-/// Takes a pass for each script, which meets pass 0.
-fn seat_scripts<'a, R: Threads + Wait + Sync, H: Home>(
     rt: &'a R,
     alloc: Global,
     store: &'a Store,
@@ -68,9 +30,13 @@ fn seat_scripts<'a, R: Threads + Wait + Sync, H: Home>(
     seats: &mut Vec<(Job, Worker<'a, R, H>)>,
 )
     requires home { H.home ≡ Some store.now }
-    requires can { CanSeat store.now (loader.old ∷ passes.old.items) scripts.items }
+    requires loader { IsIdle store.now loader.old }
+    requires idle { AllByRecursion (IsIdle store.now) passes.old.items }
+    requires count { length passes.old.items ≡ length scripts.items }
+    requires few { length scripts.items < 2 ^ 32 - 1 }
     requires room { (seats.old.items ≡ []) × (length scripts.items ≤ vec_capacity seats.old) }
-    ensures loader { IsStillIdle store.now loader.old loader.new }
+    ensures loader { IsIdle store.now loader.new }
+    ensures account { account_of store.now loader.new ≡ account_of store.now loader.old }
     ensures seated { AreSeated store.now (account_of store.now loader.old).seen 1 scripts.items passes.old.items
         (map (λ x. (x.0, x.1.pass)) seats.new.items) }
     ensures store { AllByRecursion (λ x. x.1.store.now ≡ store.now) seats.new.items }
@@ -100,7 +66,8 @@ fn seat_one<'a, R: Threads + Wait + Sync, H: Home>(
     requires home { H.home ≡ Some store.now }
     requires loader { IsIdle store.now loader.old }
     requires idle { IsIdle store.now pass }
-    ensures loader { IsStillIdle store.now loader.old loader.new }
+    ensures loader { IsIdle store.now loader.new }
+    ensures account { account_of store.now loader.new ≡ account_of store.now loader.old }
     ensures seated { IsSeated store.now (account_of store.now loader.old).seen number script pass result.0 result.1.pass }
     ensures store { result.1.store.now ≡ store.now }
 {
@@ -112,42 +79,16 @@ fn seat_one<'a, R: Threads + Wait + Sync, H: Home>(
     )
 }
 
-/// Takes the passes and the jobs back: the pass of the service, and those of the seats in their order. Takes no memory.
+/// Takes the passes and the jobs back, in their order. Takes no memory.
 pub(crate) fn leave_all<R: Wait, H: Home>(
-    store: &Store,
-    over: JobsOver<Worker<'_, R, H>>,
-    passes: &mut Vec<Pass>,
-    jobs: &mut Vec<Job>,
-)
-    requires home { H.home ≡ Some store.now }
-    requires room { (length passes.old.items + length over.jobs.items < vec_capacity passes.old)
-        × (length jobs.old.items + length over.jobs.items ≤ vec_capacity jobs.old) }
-    ensures passes { passes.new.items
-        ≡ passes.old.items ++ over.entry.service.pass ∷ map (λ x. x.1.pass) over.entry.jobs.items }
-    ensures room { vec_capacity passes.new ≡ vec_capacity passes.old }
-    ensures jobs { jobs.new.items ≡ jobs.old.items ++ map (λ x. x.0) over.entry.jobs.items }
-    ensures service { IsReady store.now over.entry.service.pass × (over.entry.service.store.now ≡ store.now) }
-    ensures ready { AllByRecursion (λ x. IsReady store.now x.1.pass × (x.1.store.now ≡ store.now))
-        over.entry.jobs.items }
-{
-    let JobsOver {
-        jobs: seats,
-        service,
-    } = over;
-    passes.push_reserved(take_pass(store, service));
-    leave_seats(store, seats, passes, jobs);
-}
-
-/// Takes the passes and the jobs of seats back, in their order.
-fn leave_seats<R: Wait, H: Home>(
     store: &Store,
     mut seats: Vec<(Job, Worker<'_, R, H>)>,
     passes: &mut Vec<Pass>,
     jobs: &mut Vec<Job>,
 )
     requires home { H.home ≡ Some store.now }
-    requires room { (length passes.old.items + length seats.items ≤ vec_capacity passes.old)
-        × (length jobs.old.items + length seats.items ≤ vec_capacity jobs.old) }
+    requires passes { length passes.old.items + length seats.items ≤ vec_capacity passes.old }
+    requires jobs { length jobs.old.items + length seats.items ≤ vec_capacity jobs.old }
     ensures passes { passes.new.items ≡ passes.old.items ++ map (λ x. x.1.pass) seats.entry.items }
     ensures room { vec_capacity passes.new ≡ vec_capacity passes.old }
     ensures jobs { jobs.new.items ≡ jobs.old.items ++ map (λ x. x.0) seats.entry.items }
@@ -163,7 +104,7 @@ fn leave_seats<R: Wait, H: Home>(
 }
 
 /// The pass of a worker of this store.
-fn take_pass<R: Wait, H: Home>(store: &Store, worker: Worker<'_, R, H>) -> Pass
+pub(crate) fn take_pass<R: Wait, H: Home>(store: &Store, worker: Worker<'_, R, H>) -> Pass
     requires home { H.home ≡ Some store.now }
     ensures pass { result ≡ worker.entry.pass }
     ensures ready { IsReady store.now result }

@@ -1,14 +1,13 @@
 use Rattle.std.proofs.Common.{◌≤◌, ◌-◌, ◌^◌, length, sym, ◌∙◌, ap, subst, refl, false}
 use Rattle.std.specs.Prelude.{min, slice_get}
 use Rattle.graph_model.specs.Loading.{IsNew}
-use Rattle.teseo_program.specs.SourceRunDeclared.run.SteppedRun.{SteppedRun}
 use Rattle.teseo_program.specs.Input.{inputs_of}
 use Rattle.teseo_program.specs.Parsing.{meaning_of}
 use Rattle.teseo_program.specs.Running.{IsConfig}
 use Rattle.run_keeper.proofs.KeptLemmas.{on_err}
 use Rattle.kept_run.specs.Refusals.{of_load, of_keep, IsRefusedKept}
-use Rattle.kept_run.proofs.KeptLemmas.{has_run, nothing_lost, kept_of_kind, still_of_kind, load_refused, keep_refused}
-use Rattle.teseo_program.proofs.SourceRun.RunLemmas.{handed_on, is_new, loadable, refused_load, started, ended, closed_as, kind_as, leaves_are, none_served, counts_of, all_at, new_jobs_count}
+use Rattle.kept_run.proofs.KeptLemmas.{nothing_lost, kept_of_kind, still_of_kind, load_refused, keep_refused}
+use Rattle.teseo_program.proofs.SourceRun.RunLemmas.{handed_on, is_new, loadable, refused_load, started, ended, closed_as, kind_as, leaves_are, left_by_run, run_as, none_served, counts_of, all_at, new_jobs_count}
 use Rattle.kept_run.proofs.run.run_scripts_kept.Goals as goal
 
 pub run_kept-requires-clause-new : goal.run_kept-requires-clause-new
@@ -31,21 +30,31 @@ settle-requires g c =
 
 pub returns-clause-run : goal.returns-clause-run
 returns-clause-run g c =
-    let inputs = inputs_of c.args.kind (meaning_of c.args.input) in
-    let config = subst (λ scripts. IsConfig c.args.kind c.args.leaves scripts c.config_of-config.result) c.as_slice.ensures c.config_of-config.ensures.config in
-    let before = c.in_ok-engine.ensures in
-    let loaded = c.in_ok-load_graph.ensures.loaded in
-    let engine = c.load_graph.new.engine.core in
-    let new = c.run_kept.new.engine.core in
-    let run : SteppedRun = record { ran = c.into_journal.result; jobs = c.run_kept.new.jobs; totals = c.totals-totals.result } in
-    let settled = c.settle.ensures.settled in
-    let ends = ended inputs c.args.leaves c.config_of-config.result config c.requires.inputs false c.in_ok-engine.engine.core engine new c.in_ok-jobs.jobs c.run_kept.new.jobs c.as_slice-schedule.result.now before loaded c.in_ok-jobs.ensures c.in_ok-run_kept.ensures.ends in
-    has_run c.stepped_runs_are_runs.ensures c.args.kind c.args.leaves c.args.input c.requires.inputs c.as_slice-schedule.result.now engine new c.run_kept.new.jobs run c.as_slice-schedule.ensures
-    (leaves_are inputs c.args.leaves c.config_of-config.result config c.requires.inputs c.in_ok-engine.engine.core engine before loaded)
-    (none_served inputs c.args.leaves c.config_of-config.result config c.requires.inputs c.in_ok-engine.engine.core engine before loaded)
-    (c.into_journal.ensures.core ∙ c.settle.ensures.core) (c.into_journal.ensures.unsettled settled.records settled.retired) refl ends
-    (counts_of c.args.kind c.settle.new.self.core run (ap (λ s. s.kind) c.settle.ensures.core ∙ kind_as false inputs c.as_slice-schedule.result.now engine new c.run_kept.new.jobs ends) c.into_journal.ensures.core c.totals-totals.ensures.vertices c.totals-totals.ensures.edges
-    (c.totals-totals.ensures.undo ∙ ap (λ n. min n (2 ^ 64 - 1)) settled.records, c.totals-totals.ensures.retired ∙ ap length settled.retired))
+    let ends = ended (inputs_of c.args.kind (meaning_of c.args.input)) c.args.leaves c.config_of-config.result (subst (λ scripts. IsConfig c.args.kind c.args.leaves scripts c.config_of-config.result) c.as_slice.ensures c.config_of-config.ensures.config) c.requires.inputs
+    false c.in_ok-engine.engine.core c.load_graph.new.engine.core c.run_kept.new.engine.core c.in_ok-jobs.jobs c.run_kept.new.jobs c.as_slice-schedule.result.now c.in_ok-engine.ensures c.in_ok-load_graph.ensures.loaded c.in_ok-jobs.ensures c.in_ok-run_kept.ensures.ends in
+    let leaves = leaves_are (inputs_of c.args.kind (meaning_of c.args.input)) c.args.leaves c.config_of-config.result (subst (λ scripts. IsConfig c.args.kind c.args.leaves scripts c.config_of-config.result) c.as_slice.ensures c.config_of-config.ensures.config) c.requires.inputs c.in_ok-engine.engine.core c.load_graph.new.engine.core c.in_ok-engine.ensures c.in_ok-load_graph.ensures.loaded in
+    let zero_served = none_served (inputs_of c.args.kind (meaning_of c.args.input)) c.args.leaves c.config_of-config.result (subst (λ scripts. IsConfig c.args.kind c.args.leaves scripts c.config_of-config.result) c.as_slice.ensures c.config_of-config.ensures.config) c.requires.inputs c.in_ok-engine.engine.core c.load_graph.new.engine.core c.in_ok-engine.ensures c.in_ok-load_graph.ensures.loaded in
+    run_as c.stepped_runs_are_runs.ensures c.serial_stepped_runs_are_serial_runs.ensures false (inputs_of c.args.kind (meaning_of c.args.input)) c.args.leaves c.args.input.schedule _ c.into_journal.result c.requires.inputs
+    (left_by_run (inputs_of c.args.kind (meaning_of c.args.input)) c.args.leaves c.args.input.schedule c.as_slice-schedule.result.now c.load_graph.new.engine.core c.run_kept.new.engine.core c.run_kept.new.jobs
+    (record { ran = c.into_journal.result; jobs = c.run_kept.new.jobs; totals = c.totals-totals.result }) c.as_slice-schedule.ensures leaves zero_served (c.into_journal.ensures.core ∙ c.settle.ensures.core) (c.into_journal.ensures.unsettled c.settle.ensures.settled.records c.settle.ensures.settled.retired) refl
+    false ends)
+
+pub returns-clause-left : goal.returns-clause-left
+returns-clause-left g c =
+    let ends = ended (inputs_of c.args.kind (meaning_of c.args.input)) c.args.leaves c.config_of-config.result (subst (λ scripts. IsConfig c.args.kind c.args.leaves scripts c.config_of-config.result) c.as_slice.ensures c.config_of-config.ensures.config) c.requires.inputs
+    false c.in_ok-engine.engine.core c.load_graph.new.engine.core c.run_kept.new.engine.core c.in_ok-jobs.jobs c.run_kept.new.jobs c.as_slice-schedule.result.now c.in_ok-engine.ensures c.in_ok-load_graph.ensures.loaded c.in_ok-jobs.ensures c.in_ok-run_kept.ensures.ends in
+    let leaves = leaves_are (inputs_of c.args.kind (meaning_of c.args.input)) c.args.leaves c.config_of-config.result (subst (λ scripts. IsConfig c.args.kind c.args.leaves scripts c.config_of-config.result) c.as_slice.ensures c.config_of-config.ensures.config) c.requires.inputs c.in_ok-engine.engine.core c.load_graph.new.engine.core c.in_ok-engine.ensures c.in_ok-load_graph.ensures.loaded in
+    let zero_served = none_served (inputs_of c.args.kind (meaning_of c.args.input)) c.args.leaves c.config_of-config.result (subst (λ scripts. IsConfig c.args.kind c.args.leaves scripts c.config_of-config.result) c.as_slice.ensures c.config_of-config.ensures.config) c.requires.inputs c.in_ok-engine.engine.core c.load_graph.new.engine.core c.in_ok-engine.ensures c.in_ok-load_graph.ensures.loaded in
+    left_by_run (inputs_of c.args.kind (meaning_of c.args.input)) c.args.leaves c.args.input.schedule c.as_slice-schedule.result.now c.load_graph.new.engine.core c.run_kept.new.engine.core c.run_kept.new.jobs
+    (record { ran = c.into_journal.result; jobs = c.run_kept.new.jobs; totals = c.totals-totals.result }) c.as_slice-schedule.ensures leaves zero_served (c.into_journal.ensures.core ∙ c.settle.ensures.core) (c.into_journal.ensures.unsettled c.settle.ensures.settled.records c.settle.ensures.settled.retired) refl
+    false ends
+
+pub returns-clause-counts : goal.returns-clause-counts
+returns-clause-counts g c =
+    let ends = ended (inputs_of c.args.kind (meaning_of c.args.input)) c.args.leaves c.config_of-config.result (subst (λ scripts. IsConfig c.args.kind c.args.leaves scripts c.config_of-config.result) c.as_slice.ensures c.config_of-config.ensures.config) c.requires.inputs
+    false c.in_ok-engine.engine.core c.load_graph.new.engine.core c.run_kept.new.engine.core c.in_ok-jobs.jobs c.run_kept.new.jobs c.as_slice-schedule.result.now c.in_ok-engine.ensures c.in_ok-load_graph.ensures.loaded c.in_ok-jobs.ensures c.in_ok-run_kept.ensures.ends in
+    counts_of c.args.kind c.settle.new.self.core (record { ran = c.into_journal.result; jobs = c.run_kept.new.jobs; totals = c.totals-totals.result }) (ap (λ s. s.kind) c.settle.ensures.core ∙ kind_as false (inputs_of c.args.kind (meaning_of c.args.input)) c.as_slice-schedule.result.now c.load_graph.new.engine.core c.run_kept.new.engine.core c.run_kept.new.jobs ends) c.into_journal.ensures.core c.totals-totals.ensures.vertices c.totals-totals.ensures.edges
+    (c.totals-totals.ensures.undo ∙ ap (λ n. min n (2 ^ 64 - 1)) c.settle.ensures.settled.records, c.totals-totals.ensures.retired ∙ ap length c.settle.ensures.settled.retired)
 
 pub load_graph-requires-clause-new : goal.load_graph-requires-clause-new
 load_graph-requires-clause-new g c κs within =

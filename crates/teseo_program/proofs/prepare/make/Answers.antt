@@ -9,21 +9,21 @@ use Rattle.teseo_program.proofs.prepare.make.Goals as goal
 
 pub run_scripts-requires-clause-inputs : goal.run_scripts-requires-clause-inputs
 run_scripts-requires-clause-inputs g c κs within =
-    are_inputs c.load_is_legal.ensures.allowed c.load_is_legal.ensures.within c.files_are_loadable.ensures.loadable (run_request c.args.words.now) c.requires.asked c.requires.given.accepted.0 (meaning_of c.args.input)
-    c.requires.given.accepted.1 c.requires.given.runnable c.requires.given.count c.kind_of-kind.result c.kind_of-kind.ensures
+    are_inputs c.load_is_legal.ensures.allowed c.load_is_legal.ensures.within c.files_are_loadable.ensures.loadable (run_request c.args.words.now) c.requires.asked c.requires.accepted.0 (meaning_of c.args.input)
+    c.requires.accepted.1 c.requires.runnable c.requires.count c.kind_of-kind.result c.kind_of-kind.ensures
 
 pub leaves_of-leaves-requires-clause-fits : goal.leaves_of-leaves-requires-clause-fits
-leaves_of-leaves-requires-clause-fits g c = files_fit c.files_are_loadable.ensures.within (run_request c.args.words.now) c.requires.given.accepted.0 (meaning_of c.args.input) c.requires.given.accepted.1 c.kind_of-kind.result c.kind_of-kind.ensures
+leaves_of-leaves-requires-clause-fits g c = files_fit c.files_are_loadable.ensures.within (run_request c.args.words.now) c.requires.accepted.0 (meaning_of c.args.input) c.requires.accepted.1 c.kind_of-kind.result c.kind_of-kind.ensures
 
 pub outputs_of-requires-clause-count : goal.outputs_of-requires-clause-count
 outputs_of-requires-clause-count g c κs within =
-    job_count c.load_is_legal.ensures.allowed c.load_is_legal.ensures.within c.files_are_loadable.ensures.loadable (run_request c.args.words.now) c.requires.asked c.requires.given.accepted.0 (meaning_of c.args.input)
-    c.requires.given.accepted.1 c.requires.given.runnable c.requires.given.count c.kind_of-kind.result c.kind_of-kind.ensures c.args.words.now.is_serial c.leaves_of-leaves.result c.in_ok-run.run' c.in_ok-run.ensures.run
+    job_count c.load_is_legal.ensures.allowed c.load_is_legal.ensures.within c.files_are_loadable.ensures.loadable (run_request c.args.words.now) c.requires.asked c.requires.accepted.0 (meaning_of c.args.input)
+    c.requires.accepted.1 c.requires.runnable c.requires.count c.kind_of-kind.result c.kind_of-kind.ensures c.args.words.now.is_serial c.leaves_of-leaves.result c.in_ok-run.run' c.in_ok-run.ensures.run
 
 pub outputs_of-requires-clause-names : goal.outputs_of-requires-clause-names
 outputs_of-requires-clause-names g c κs within =
-    are_printable c.load_is_legal.ensures.allowed c.load_is_legal.ensures.within c.files_are_loadable.ensures.loadable (run_request c.args.words.now) c.requires.asked c.requires.given.accepted.0 (meaning_of c.args.input)
-    c.requires.given.accepted.1 c.requires.given.runnable c.requires.given.count c.kind_of-kind.result c.kind_of-kind.ensures c.args.words.now.is_serial c.leaves_of-leaves.result c.in_ok-run.run' c.in_ok-run.ensures.run
+    are_printable c.load_is_legal.ensures.allowed c.load_is_legal.ensures.within c.files_are_loadable.ensures.loadable (run_request c.args.words.now) c.requires.asked c.requires.accepted.0 (meaning_of c.args.input)
+    c.requires.accepted.1 c.requires.runnable c.requires.count c.kind_of-kind.result c.kind_of-kind.ensures c.args.words.now.is_serial c.leaves_of-leaves.result c.in_ok-run.run' c.in_ok-run.ensures.run
 
 pub returns-clause-made : goal.returns-clause-made
 returns-clause-made g c =
@@ -33,8 +33,8 @@ returns-clause-made g c =
 
 pub returns-clause-apart : goal.returns-clause-apart
 returns-clause-apart g c =
-    are_apart c.load_is_legal.ensures.allowed c.load_is_legal.ensures.within c.files_are_loadable.ensures.loadable (run_request c.args.words.now) c.requires.asked c.requires.given.accepted.0 (meaning_of c.args.input)
-    c.requires.given.accepted.1 c.requires.given.runnable c.requires.given.count c.kind_of-kind.result c.kind_of-kind.ensures c.args.words.now.is_serial c.leaves_of-leaves.result c.in_ok-run.run' c.in_ok-run.ensures.run c.in_ok-outputs.outputs
+    are_apart c.load_is_legal.ensures.allowed c.load_is_legal.ensures.within c.files_are_loadable.ensures.loadable (run_request c.args.words.now) c.requires.asked c.requires.accepted.0 (meaning_of c.args.input)
+    c.requires.accepted.1 c.requires.runnable c.requires.count c.kind_of-kind.result c.kind_of-kind.ensures c.args.words.now.is_serial c.leaves_of-leaves.result c.in_ok-run.run' c.in_ok-run.ensures.run c.in_ok-outputs.outputs
     c.in_ok-outputs.ensures
 
 pub leaves_of-leaves-requires-clause-some : goal.leaves_of-leaves-requires-clause-some

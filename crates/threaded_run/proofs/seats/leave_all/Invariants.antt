@@ -1,8 +1,8 @@
 use Rattle.std.proofs.Common.{◌≡◌, ◌+◌, ◌≤◌, ◌++◌, length, map}
 use Rattle.std.specs.List.{AllByRecursion}
 use Rattle.std.specs.Vec.{vec_capacity}
-use Rattle.rebalance_service.specs.WorkerCalls.Ready.{IsReady}
-use Rattle.threaded_run.proofs.seats.leave_seats.Given as goal
+use Rattle.rebalance_service.specs.Ready.{IsReady}
+use Rattle.threaded_run.proofs.seats.leave_all.Given as goal
 
 -- those that are left come behind those that were taken
 abbrev pub invariant-seats : goal.invariant-seats

@@ -5,7 +5,7 @@ use Rattle.thread_runner.specs.JobRunner.Progress.{Progress}
 use Rattle.rebalance_service.specs.SharedStoreDeclared.pass.Pass.{Pass}
 use Rattle.rebalance_service.specs.SharedStore.Passes.{IsIdle, account_of}
 use Rattle.threaded_run.specs.Seats.{AreSeated}
-use Rattle.threaded_run.proofs.seats.seat_scripts.Given as goal
+use Rattle.threaded_run.proofs.seats.seat_all.Given as goal
 
 -- whatever seats the scripts that are left get, they come behind those that are there
 abbrev pub invariant-scripts : goal.invariant-scripts
