@@ -22,8 +22,8 @@ use Rattle.rebalance_service.specs.StoreRuleDeclared.store.Store.{Store}
 use Rattle.rebalance_service.specs.PassSteps.Passes.{state_of}
 use Rattle.rebalance_service.specs.SharedStoreDeclared.pass.Pass.{Pass}
 use Rattle.rebalance_service.specs.SharedStore.Passes.{IsIdle, account_of}
-use Rattle.rebalance_service.specs.Ready.{IsReady}
-use Rattle.rebalance_service.proofs.ReadyLemmas.{idle_here}
+use Rattle.rebalance_service.specs.WorkerCalls.Ready.{IsReady}
+use Rattle.rebalance_service.proofs.WorkerCalls.ReadyLemmas.{idle_here}
 use Rattle.threaded_run.specs.Running.{CanRun}
 use Rattle.threaded_run.specs.Seats.{AreIdleFrom, AreSeated, IsSeated}
 use Rattle.threaded_run.specs.Ended.{HasEnded, HaveEnded}

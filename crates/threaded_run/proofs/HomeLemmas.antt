@@ -16,8 +16,8 @@ use Rattle.rebalance_service.specs.StoreRuleDeclared.store.Store.{Store}
 use Rattle.rebalance_service.specs.SharedStoreDeclared.pass.Pass.{Pass}
 use Rattle.rebalance_service.specs.SharedStore.Loading.{AreLoaded}
 use Rattle.rebalance_service.specs.SharedStore.Passes.{IsIdle, account_of}
-use Rattle.rebalance_service.specs.Ready.{IsReady}
-use Rattle.rebalance_service.proofs.ReadyLemmas.{idle_here, start_none}
+use Rattle.rebalance_service.specs.WorkerCalls.Ready.{IsReady}
+use Rattle.rebalance_service.proofs.WorkerCalls.ReadyLemmas.{idle_here, start_none}
 use Rattle.threaded_run.specs.Running.{CanRun}
 use Rattle.threaded_run.specs.Seats.{AreIdleFrom, AreSeated, CanRunBefore, CanRunOn}
 use Rattle.threaded_run.specs.Ended.{HaveEnded}

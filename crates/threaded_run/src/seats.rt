@@ -6,7 +6,7 @@ ghost use Rattle.std.specs.Prelude.{◌≡◌, ◌<◌, ◌≤◌, ◌+◌, ◌-
 ghost use Rattle.std.specs.List.{AllByRecursion};
 ghost use Rattle.std.specs.Vec.{vec_capacity};
 ghost use Rattle.rebalance_service.specs.SharedStore.Passes.{IsIdle, account_of};
-ghost use Rattle.rebalance_service.specs.Ready.{IsReady};
+ghost use Rattle.rebalance_service.specs.WorkerCalls.Ready.{IsReady};
 ghost use Rattle.threaded_run.specs.Seats.{AreSeated, IsSeated};
 
 use rebalance_service::below::{Pass, Store, meet};

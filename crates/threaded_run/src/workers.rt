@@ -14,7 +14,7 @@ ghost use Rattle.shared_runs.specs.Closing.{HaveRunOn, OthersMadeNothing};
 ghost use Rattle.rebalance_service.specs.SharedStoreDeclared.pass.Pass.{Pass};
 ghost use Rattle.rebalance_service.specs.SharedStore.Ends.{AreIdle};
 ghost use Rattle.rebalance_service.specs.SharedStore.Passes.{account_of};
-ghost use Rattle.rebalance_service.specs.Ready.{IsReady};
+ghost use Rattle.rebalance_service.specs.WorkerCalls.Ready.{IsReady};
 ghost use Rattle.rebalance_service.specs.Spare.{AreSpare};
 ghost use Rattle.thread_runner.specs.Driving.{HasRun, some_gave_up};
 ghost use Rattle.threaded_run.specs.Seats.{AreIdleFrom, CanRunBefore, CanRunOn};

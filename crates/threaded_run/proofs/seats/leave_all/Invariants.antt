@@ -1,7 +1,7 @@
 use Rattle.std.proofs.Common.{◌≡◌, ◌+◌, ◌≤◌, ◌++◌, length, map}
 use Rattle.std.specs.List.{AllByRecursion}
 use Rattle.std.specs.Vec.{vec_capacity}
-use Rattle.rebalance_service.specs.Ready.{IsReady}
+use Rattle.rebalance_service.specs.WorkerCalls.Ready.{IsReady}
 use Rattle.threaded_run.proofs.seats.leave_all.Given as goal
 
 -- those that are left come behind those that were taken
