@@ -6,6 +6,8 @@
 //! 2. One bucket at a time is settled: the arcs out of each place of it are followed, which may put places
 //!    into it again.
 //! 3. The arcs out of each place below the bucket at hand lead nowhere at a lesser distance than what is known.
+//! 4. With three threads or more workers find distances together first, each those of its own places. No clause says
+//!    what they find: it is taken where a look along all arcs shows that it is the least.
 #![tactic(auto)]
 
 mod ahead;
