@@ -1,3 +1,4 @@
+pub mod AheadLemmas
 pub mod PlaceLemmas
 pub mod FaultLemmas
 pub mod LineLemmas

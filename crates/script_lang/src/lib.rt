@@ -7,6 +7,7 @@
 //! the same three in `specs/`, and the laws by cases on a word.
 #![tactic(auto)]
 
+mod ahead;
 mod arguments;
 mod command;
 mod laws;
@@ -17,6 +18,7 @@ mod schedule;
 mod script;
 mod word;
 
+pub use ahead::read_ahead;
 pub use laws::limits_are_as_written;
 pub use names::Names;
 pub use refusal::{ScheduleRefusal, ScheduleWhat, ScriptRefusal, ScriptWhat};

@@ -3,7 +3,7 @@
 //! 1. A map keeps for each name the first place at which it stands, so a name is looked up in logarithmic time.
 //! 2. After a refusal the names are those of before the call.
 
-ghost use Rattle.std.specs.Prelude.{◌≡◌, ◌==◌, ◌↔◌, ℕ, cond, List, [], ◌∷◌, ◌++◌, length, take, Contains, Some, None, IsTrue, OnOk, OnErr, ◌&&◌};
+ghost use Rattle.std.specs.Prelude.{◌≡◌, ◌==◌, ◌↔◌, ℕ, cond, List, [], ◌∷◌, ◌++◌, length, take, Contains, Some, None, IsTrue, IfOk, OnOk, OnErr, ◌&&◌};
 ghost use Rattle.std.specs.Option.{option_or};
 ghost use Rattle.std.specs.Str.{bytes_eq};
 ghost use Rattle.script_lang.specs.Places.{place_in, is_at};
@@ -59,6 +59,18 @@ impl Names {
         add_place(self.alloc, &mut self.places, name.as_slice(), place)?;
         self.names.push_within(name);
         Ok(())
+    }
+
+    /// The same names.
+    pub fn copy(&self, alloc: Global) -> Result<Names, NoMemory>
+        ensures { IfOk result (λ names. names ≡ self.now) }
+    {
+        let mut names = Names::new(alloc);
+        'names: for name in self.names.as_slice() {
+            let bytes = Vec::from_slice(alloc, name.as_slice())?;
+            names.push(Name::from_vec(bytes))?;
+        }
+        Ok(names)
     }
 
     pub fn contains(&self, bytes: &[u8]) -> bool

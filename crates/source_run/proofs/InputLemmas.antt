@@ -1,15 +1,19 @@
 -- From the texts of the sources to what they stand for.
-use Rattle.std.proofs.Common.{◌≡◌, ℕ, zero, suc, ◌+◌, ◌-◌, ◌<◌, ◌≤◌, List, [], ◌∷◌, ◌++◌, length, take, drop, get_or, refl, sym, ◌∙◌, ap, subst, arith}
-use Rattle.std.specs.Prelude.{Option, option_to_list, Result, Ok, Err, IfErr}
+use Rattle.std.proofs.Common.{◌≡◌, ℕ, true, zero, suc, ◌+◌, ◌-◌, ◌<◌, ◌≤◌, List, [], ◌∷◌, ◌++◌, length, take, drop, get_or, refl, sym, ◌∙◌, ap, subst, arith}
+use Rattle.std.specs.Prelude.{Option, None, option_to_list, Result, Ok, Err, IfErr, slice_set}
 use Rattle.std.specs.Result.{IsErrAnd}
-use Rattle.std.specs.List.{flat_map}
+use Rattle.std.specs.List.{AllZip, flat_map}
 use Rattle.std.proofs.lemmas.List.{append-nil, append_assoc, length-append, length-drop}
 use Rattle.run_model.specs.declared.command.Command.{Command}
 use Rattle.script_lang.specs.declared.refusal.ScriptRefusal.{ScriptRefusal}
 use Rattle.script_lang.specs.declared.refusal.ScriptRefusal.TheVariants as scripts
 use Rattle.script_lang.specs.Scripts.{script_of, files_of, IsRefused}
 use Rattle.script_lang.specs.Runnable.{IsRunnable}
+use Rattle.script_lang.specs.Ahead.{IsAhead}
+use Rattle.script_lang.proofs.AheadLemmas.{none_more}
 use Rattle.std.proofs.Math.Seq.{take-suc}
+use Rattle.std.proofs.Math.Dec.{eqb}
+use Rattle.std.proofs.lemmas.Bool.{eqb-true}
 use Rattle.graph_model.specs.declared.limits.TheConstants.{MAX_LOAD_ROWS}
 use Rattle.graphalytics_io.specs.declared.edges.Edge.{Edge}
 use Rattle.graph_files.specs.VertexFiles.{vertices_of}
@@ -73,6 +77,31 @@ schedule_behind jobs taken (t ∷ texts) (s ∷ scripts) schedule fault are is =
     (s, are.0, schedule_behind jobs (taken ++ files_of s) texts scripts schedule fault are.1 is)
 
 -- ---- lists
+
+-- where no script has asked for a file the names are those of before
+names_stay : (first taken : List (List ℕ)) (scripts : List (List Command)) → taken ≡ taken_behind first scripts → length taken ≡ length first → taken ≡ first
+names_stay first taken scripts is same =
+    is ∙ ap (λ files. first ++ files) (none_more first (flat_map files_of scripts) (ap length (sym is) ∙ same)) ∙ append-nil first
+
+-- as two counts of names tell
+pub names_right : (first taken : List (List ℕ)) (scripts : List (List Command)) (now before : ℕ) → taken ≡ taken_behind first scripts → now ≡ length taken → before ≡ length first → eqb now before ≡ true → taken ≡ first
+names_right first taken scripts now before is n b same = let alike = eqb-true now before same in names_stay first taken scripts is (omega (arith, n, b, alike))
+
+-- what is taken out of what was read ahead leaves nothing to hold
+pub ahead_without : (taken : List (List ℕ)) (texts : List (List ℕ)) (ahead : List (Option (List Command))) (k : ℕ) → AllZip (IsAhead taken) texts ahead → AllZip (IsAhead taken) texts (slice_set ahead k None)
+ahead_without taken [] [] zero all = tt
+ahead_without taken [] [] (suc k) all = tt
+ahead_without taken [] (read ∷ ahead) k all = absurd all
+ahead_without taken (text ∷ texts) [] k all = absurd all
+ahead_without taken (text ∷ texts) (read ∷ ahead) zero all = (tt, all.1)
+ahead_without taken (text ∷ texts) (read ∷ ahead) (suc k) all = (all.0, ahead_without taken texts ahead k all.1)
+
+-- what was read ahead of a text
+pub ahead_of : (taken : List (List ℕ)) (texts : List (List ℕ)) (ahead : List (Option (List Command))) (k : ℕ) (text d : List ℕ) (read e : Option (List Command)) → AllZip (IsAhead taken) texts ahead → k < length texts → text ≡ get_or texts k d → read ≡ get_or ahead k e → IsAhead taken text read
+ahead_of taken [] ahead k text d read e all lt there found = absurd (omega (arith, lt))
+ahead_of taken (t ∷ texts) [] k text d read e all lt there found = absurd all
+ahead_of taken (t ∷ texts) (r ∷ ahead) zero text d read e all lt there found = subst (λ x. IsAhead taken text x) (sym found) (subst (λ x. IsAhead taken x r) (sym there) all.0)
+ahead_of taken (t ∷ texts) (r ∷ ahead) (suc k) text d read e all lt there found = ahead_of taken texts ahead k text d read e all.1 (omega (arith, lt)) there found
 
 -- one element more
 pub one_more : {X : Type 0} (xs : List X) (i : ℕ) (d : X) → i < length xs → take i xs ++ get_or xs i d ∷ [] ≡ take (i + 1) xs

@@ -3,14 +3,20 @@
 //! 1. The sources are parsed in the order in which they were read, so the first one with a fault is the one that
 //!    is named.
 //! 2. The names that a script may not use grow by the files of each script, in order.
+//! 3. Several threads read the scripts ahead, each as if those before it asked for no file. Where one does, those after
+//!    it are read again.
 
-ghost use Rattle.std.specs.Prelude.{◌≡◌, ◌≤◌, length, All, Ok, IfOk, IfErr};
+ghost use Rattle.std.specs.Prelude.{◌≡◌, ◌≤◌, ◌<◌, ◌++◌, ℕ, List, true, length, get_or, All, Ok, IfOk, IfErr};
+ghost use Rattle.std.specs.List.{AllZip};
 ghost use Rattle.graph_model.specs.declared.limits.TheConstants.{MAX_LOAD_ROWS, MAX_SCRIPTS};
 ghost use Rattle.graph_files.specs.VertexFiles.{vertices_of};
 ghost use Rattle.graph_files.specs.EdgeFiles.{edges_of};
 ghost use Rattle.command_words.specs.Words.{taken_names};
 ghost use Rattle.command_words.specs.Views.{run_request, taken_name};
 ghost use Rattle.graph_files.specs.Weights.{AreReadable};
+ghost use Rattle.script_lang.specs.Ahead.{IsAhead};
+ghost use Rattle.script_lang.specs.Runnable.{IsRunnable};
+ghost use Rattle.script_lang.specs.Scripts.{script_of, files_of, IsRefused};
 ghost use Rattle.source_run.specs.Requests.{weights_of, rules_of};
 ghost use Rattle.source_run.specs.Input.{texts_of, AreScripts};
 ghost use Rattle.source_run.specs.Parsing.{AreTexts, IsInputOf, AreEntriesOf, AreRunnable, IsParseStop, IsGraphStop, IsScriptStop, IsScheduleStopOf, stop_of_script};
@@ -24,7 +30,9 @@ use graph_model::{Ids, MAX_LOAD_ROWS, NoMemory};
 use graphalytics_io::Edges;
 use items::Items;
 use run_model::{Name, Script};
-use script_lang::{Names, Schedule, ScheduleRefusal, ScriptRefusal, read_schedule, read_script};
+use script_lang::{
+    Names, Schedule, ScheduleRefusal, ScriptRefusal, read_ahead, read_schedule, read_script,
+};
 use std::alloc::Global;
 use std::thread::Threads;
 
@@ -65,7 +73,7 @@ pub fn parse_sources<R: Threads + Sync>(
     // Names of the words come first; each script adds those of its results, so a later one can't take them.
     let mut taken = names_taken(alloc, words)?;
     let count = script_count(words);
-    let scripts = parse_scripts(alloc, &texts[2..count + 2], &mut taken)?;
+    let scripts = parse_scripts(rt, alloc, &texts[2..count + 2], &mut taken)?;
     let schedule = parse_schedule(alloc, texts, words)?;
     Ok(Input {
         ids,
@@ -120,8 +128,9 @@ fn parse_edges<R: Threads + Sync>(
     }
 }
 
-/// Parses the scripts, the sources from the third on.
-fn parse_scripts(
+/// Parses the scripts, the sources from the third on, by several threads.
+fn parse_scripts<R: Threads + Sync>(
+    rt: &R,
     alloc: Global,
     texts: &[Bytes],
     taken: &mut Names,
@@ -130,16 +139,56 @@ fn parse_scripts(
     ensures runnable { IfOk result (AreRunnable taken.old) }
     ensures refused { IfErr result (IsScriptStop taken.old texts.now) }
 {
+    let mut ahead = read_ahead(rt, alloc, texts, taken)?;
+    let before = taken.len();
     let mut scripts = Items::new(alloc);
     'texts: for k in 0..texts.len() {
+        // What was read ahead is right as long as no script has asked for a file.
+        let read = take_read(&mut ahead, k, taken.len() == before);
         // A fault of a script knows its line alone; which source it is in is added here.
-        let script = match read_script(alloc, texts[k].as_slice(), taken) {
+        let script = match read_behind(alloc, texts[k].as_slice(), read, taken) {
             Ok(script) => script,
             Err(refusal) => return Err(script_stop(k + 2, refusal)),
         };
         scripts.push(script)?;
     }
     Ok(scripts)
+}
+
+/// Takes out what was read ahead of the text at a place, if it is right.
+fn take_read(ahead: &mut Vec<Option<Script>>, place: usize, is_right: bool) -> Option<Script>
+    ensures read { (first now : List (List ℕ)) (texts : List (List ℕ)) (text none : List ℕ)
+        → AllZip (IsAhead first) texts ahead.old.items → place < length texts → text ≡ get_or texts place none
+        → (is_right ≡ true → now ≡ first) → IsAhead now text result }
+    ensures left { (first : List (List ℕ)) (texts : List (List ℕ)) → AllZip (IsAhead first) texts ahead.old.items
+        → AllZip (IsAhead first) texts ahead.new.items }
+{
+    if !is_right {
+        return None;
+    }
+    match ahead.get_mut(place) {
+        Some(read) => read.take(),
+        None => None,
+    }
+}
+
+/// The script that was read ahead, if it was; else it is read now.
+fn read_behind(
+    alloc: Global,
+    text: &[u8],
+    ahead: Option<Script>,
+    taken: &mut Names,
+) -> Result<Script, ScriptRefusal>
+    requires { IsAhead taken.old text.now ahead }
+    ensures ok { IfOk result (λ script. script_of taken.old text.now ≡ Ok script) }
+    ensures names { IfOk result (λ script. taken.new ≡ taken.old ++ files_of script) }
+    ensures runnable { IfOk result (IsRunnable taken.old) }
+    ensures fault { IfErr result (IsRefused (script_of taken.old text.now)) }
+{
+    match ahead {
+        Some(script) => Ok(script),
+        None => read_script(alloc, text, taken),
+    }
 }
 
 /// The stop at a script, the source at this place.
