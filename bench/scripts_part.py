@@ -1,0 +1,80 @@
+#!/usr/bin/env python3
+"""Times the scripts' part of runs with --threads: from the first thread's begin to the end of the last one.
+
+    scripts_part.py PROGRAM TIMES -- run --vertices V --edges E --journal J --threads N SCRIPT..
+
+Runs the program so often and prints the seconds of each run's part behind the load. The kernel tells when
+`run_blocks` of thread_runner is entered and left: that takes Linux with uprobes, its tracing file system at
+/sys/kernel/tracing, `perf`, `nm` and `readelf`, and root. Reports and the journal of a run are removed before the next.
+"""
+
+import os
+import pathlib
+import re
+import subprocess
+import sys
+import tempfile
+
+TRACING = pathlib.Path("/sys/kernel/tracing")
+FUNCTION = "thread_runner::driver::run_blocks"
+EVENTS = {"p": "enter", "r": "leave"}
+GROUP = "scripts"
+
+
+def words_of(*command):
+    """What a command prints."""
+    return subprocess.run(command, capture_output=True, text=True, check=True).stdout
+
+
+def file_place(program):
+    """Where in the program's file the function begins."""
+    address = next(int(line.split()[0], 16) for line in words_of("nm", program).splitlines() if FUNCTION in line)
+    loaded = re.findall(r"LOAD\s+(0x\w+)\s+(0x\w+)\s+0x\w+\s+(0x\w+)", words_of("readelf", "-lW", program))
+    for place, start, size in ((int(number, 16) for number in numbers) for numbers in loaded):
+        if start <= address < start + size:
+            return address - start + place
+    sys.exit(f"{program}: {FUNCTION} is in no part that is loaded")
+
+
+def set_probes(program):
+    """Has the kernel tell when the function is entered and left."""
+    place = file_place(program)
+    for kind, name in EVENTS.items():
+        # Not by `open`, which looks for the end of the file: this one has none.
+        probes = os.open(TRACING / "uprobe_events", os.O_WRONLY | os.O_APPEND)
+        os.write(probes, f"{kind}:{GROUP}/{name} {program}:{place:#x}\n".encode())
+        os.close(probes)
+
+
+def drop_probes():
+    """Takes all probes away again."""
+    (TRACING / "uprobe_events").write_text("\n", encoding="ascii")
+
+
+def seconds_of(program, words):
+    """How long the scripts' part of one run takes."""
+    with tempfile.NamedTemporaryFile() as record:
+        names = ",".join(f"{GROUP}:{name}" for name in EVENTS.values())
+        subprocess.run(["perf", "record", "-q", "-e", names, "-o", record.name, "--", program, *words],
+                       stdout=subprocess.DEVNULL, check=True)
+        told = words_of("perf", "script", "-i", record.name, "-F", "time")
+    times = [float(time) for time in re.findall(r"([\d.]+):", told)]
+    return max(times) - min(times)
+
+
+def main():
+    program, times = str(pathlib.Path(sys.argv[1]).resolve()), int(sys.argv[2])
+    words = sys.argv[sys.argv.index("--") + 1:]
+    journal = pathlib.Path(words[words.index("--journal") + 1])
+    set_probes(program)
+    try:
+        for _ in range(times):
+            for file in [journal, *pathlib.Path(".").glob("*.report")]:
+                file.unlink(missing_ok=True)
+            print(f"{seconds_of(program, words):.3f}", flush=True)
+    finally:
+        drop_probes()
+
+
+if __name__ == "__main__":
+    main()
