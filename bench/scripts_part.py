@@ -3,7 +3,7 @@
 
     scripts_part.py PROGRAM TIMES -- run --vertices V --edges E --journal J --threads N SCRIPT..
 
-Runs the program so often and prints the seconds of each run's part behind the load. The kernel tells when
+Runs the program so often and prints the seconds of each run's part after the load. The kernel tells when
 `run_blocks` of thread_runner is entered and left: that takes Linux with uprobes, its tracing file system at
 /sys/kernel/tracing, `perf`, `nm` and `readelf`, and root. Reports and the journal of a run are removed before the next.
 """
