@@ -51,7 +51,7 @@ fn parts_give_the_image_of_arcs(rt: HostRuntime) -> Result<(), Fail> {
 }
 
 /// Asserts that the image of the rows in 1, 2 and 7 parts, of a graph of each of these kinds, is that of a builder.
-fn assert_same_in_parts<R: Threads + Sync + Abort>(
+pub fn assert_same_in_parts<R: Threads + Sync + Abort>(
     rt: &R,
     alloc: Global,
     kinds: &[Kind],

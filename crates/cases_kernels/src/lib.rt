@@ -5,11 +5,15 @@
 #![tactic(auto)]
 
 #[cfg(test)]
+mod checks;
+#[cfg(test)]
 mod graphs;
 #[cfg(test)]
 mod images;
 #[cfg(test)]
 mod labels;
+#[cfg(test)]
+mod made;
 #[cfg(test)]
 mod paths;
 #[cfg(test)]
