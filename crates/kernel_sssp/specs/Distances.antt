@@ -6,10 +6,15 @@ use Rattle.graph_image.specs.declared.edge.Arc.{Arc}
 use Rattle.graph_image.specs.Images.{Places, arcs_at}
 use Rattle.graph_image.specs.Paths.{HasPathBy}
 use Rattle.kernel_sssp.specs.declared.distances.TheConstants.{UNREACHED}
+use Rattle.kernel_sssp.specs.declared.worker.TheConstants.{FAR}
 
 -- a weight as the table has it
 abbrev pub value_of : ℕ → Value
 value_of distance = cond (distance == UNREACHED) Infinity (Number distance)
+
+-- a distance of 32 bits, which several threads found, in 64 bits
+abbrev pub wide_of : ℕ → ℕ
+wide_of distance = cond (distance == FAR) UNREACHED distance
 
 -- an arc of this weight out of p leads to q
 abbrev pub LinkOut : Places → ℕ → ℕ → ℕ → Type 0

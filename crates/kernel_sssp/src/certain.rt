@@ -6,67 +6,65 @@
 //!    2011).
 //! 2. The least distances themselves may be refused, where an arc of weight 0 alone leads to a place at its distance.
 //! 3. Each place is looked at by itself along the arcs into it, so threads share the places.
+//! 4. Distances have 32 bits here, as those have who find them: what is looked up along each arc fits a cache twice as
+//!    well. The clauses speak of the distances that they stand for.
 
-ghost use Rattle.std.specs.Prelude.{◌≡◌, ℕ, ◌<◌, length, slice_get, slice_index, Some, IsTrue};
+ghost use Rattle.std.specs.Prelude.{◌≡◌, ℕ, ◌<◌, length, map, slice_get, slice_index, Some, IsTrue};
 ghost use Rattle.graph_image.specs.Images.{AreWithin};
 ghost use Rattle.graph_image.specs.declared.edge.Arc.{Arc};
+ghost use Rattle.kernel_sssp.specs.Distances.{wide_of};
 ghost use Rattle.kernel_sssp.specs.Certain.{AreAllowed, IsAllowed, IsMet, HasMeeting, IsCertain, AreCertain};
 
-use crate::distances::UNREACHED;
+use crate::distances::{UNREACHED, wide};
 use graph_image::{Arc, Image};
 use rayon::prelude::*;
 use std::thread::Threads;
 
 /// Whether these are told to be the least distances from the root.
-pub fn are_certain<R: Threads + Sync>(
-    rt: &R,
-    image: &Image,
-    root: usize,
-    distances: &Vec<u64>,
-) -> bool
-    ensures { IsTrue result → AreCertain image.now root distances.now.items }
+pub fn are_certain<R: Threads + Sync>(rt: &R, image: &Image, root: usize, distances: &[u32]) -> bool
+    ensures { IsTrue result → AreCertain image.now root (map wide_of distances.now) }
 {
     if distances.len() != image.len() || root >= distances.len() || distances[root] != 0 {
         return false;
     }
-    all_certain(rt, image, root, distances.as_slice())
+    all_certain(rt, image, root, distances)
 }
 
 /// Whether each distance is told to be right if all others are.
-fn all_certain<R: Threads + Sync>(rt: &R, image: &Image, root: usize, distances: &[u64]) -> bool
+fn all_certain<R: Threads + Sync>(rt: &R, image: &Image, root: usize, distances: &[u32]) -> bool
     requires count { length distances.now ≡ length image.now.vertices }
     ensures { IsTrue result → (place : ℕ) → place < length image.now.vertices
-        → IsCertain image.now root distances.now place }
+        → IsCertain image.now root (map wide_of distances.now) place }
 {
     (0..image.len()).into_par_iter().all(
         rt,
         |place: usize| -> bool
             requires { (place < length image.now.vertices) × (length distances.now ≡ length image.now.vertices) }
-            ensures { IsTrue result → IsCertain image.entry.now root distances.entry.now place }
+            ensures { IsTrue result → IsCertain image.entry.now root (map wide_of distances.entry.now) place }
         { is_certain(image, root, distances, place) },
     )
 }
 
 /// Whether the distance of a place is told to be right if all others are.
-fn is_certain(image: &Image, root: usize, distances: &[u64], place: usize) -> bool
+fn is_certain(image: &Image, root: usize, distances: &[u32], place: usize) -> bool
     requires place { place < length image.now.vertices }
     requires count { length distances.now ≡ length image.now.vertices }
-    ensures { IsTrue result → IsCertain image.now root distances.now place }
+    ensures { IsTrue result → IsCertain image.now root (map wide_of distances.now) place }
 {
-    let distance = distances[place];
+    let distance = distance_at(distances, place);
     let arcs = image.into(place);
     are_allowed(distances, arcs, distance)
         && (place == root || distance == UNREACHED || has_meeting(distances, arcs, distance))
 }
 
 /// Whether no arc leads from a reached place to a lesser distance than this.
-fn are_allowed(distances: &[u64], arcs: &[Arc], distance: u64) -> bool
+fn are_allowed(distances: &[u32], arcs: &[Arc], distance: u64) -> bool
     requires { AreWithin (length distances.now) arcs.now }
-    ensures { IsTrue result → AreAllowed distances.now arcs.now (length arcs.now) distance }
+    ensures { IsTrue result → AreAllowed (map wide_of distances.now) arcs.now (length arcs.now) distance }
 {
     'arcs: for i in 0..arcs.len() {
         let Arc { other, weight } = arcs[i];
-        if !is_allowed(distances[other as usize], weight, distance) {
+        if !is_allowed(distance_at(distances, other as usize), weight, distance) {
             return false;
         }
     }
@@ -87,13 +85,13 @@ fn is_allowed(before: u64, weight: u32, distance: u64) -> bool
 }
 
 /// Whether one of the arcs, with a weight, leads at just this distance.
-fn has_meeting(distances: &[u64], arcs: &[Arc], distance: u64) -> bool
+fn has_meeting(distances: &[u32], arcs: &[Arc], distance: u64) -> bool
     requires { AreWithin (length distances.now) arcs.now }
-    ensures { IsTrue result → HasMeeting distances.now arcs.now distance }
+    ensures { IsTrue result → HasMeeting (map wide_of distances.now) arcs.now distance }
 {
     'arcs: for i in 0..arcs.len() {
         let Arc { other, weight } = arcs[i];
-        if is_met(distances[other as usize], weight, distance) {
+        if is_met(distance_at(distances, other as usize), weight, distance) {
             return true;
         }
     }
@@ -105,4 +103,12 @@ fn is_met(before: u64, weight: u32, distance: u64) -> bool
     ensures { IsTrue result → IsMet before weight distance }
 {
     weight > 0 && before.checked_add(weight as u64) == Some(distance)
+}
+
+/// The distance of a place, in 64 bits.
+fn distance_at(distances: &[u32], place: usize) -> u64
+    requires { place < length distances.now }
+    ensures { result ≡ slice_index (map wide_of distances.now) place }
+{
+    wide(distances[place])
 }

@@ -6,8 +6,9 @@
 
 ghost use Rattle.std.specs.Prelude.{◌≡◌, length, map, IfOk};
 ghost use Rattle.graph_image.specs.Entries.{AreEntries};
-ghost use Rattle.kernel_sssp.specs.Distances.{value_of};
+ghost use Rattle.kernel_sssp.specs.Distances.{value_of, wide_of};
 
+use crate::worker::FAR;
 use graph_image::{Entry, Image, NoMemory, Table, Value};
 use std::alloc::Global;
 
@@ -38,5 +39,27 @@ fn value(distance: u64) -> Value
         Value::Infinity
     } else {
         Value::Number { n: distance }
+    }
+}
+
+/// The distances that several threads found, in 64 bits.
+pub fn widened(alloc: Global, distances: &[u32]) -> Result<Vec<u64>, NoMemory>
+    ensures { IfOk result (λ wide. wide.items ≡ map wide_of distances.now) }
+{
+    let mut wider = Vec::with_capacity(alloc, distances.len())?;
+    'distances: for i in 0..distances.len() {
+        wider.push(wide(distances[i]))?;
+    }
+    Ok(wider)
+}
+
+/// A distance that several threads found, in 64 bits.
+pub fn wide(distance: u32) -> u64
+    ensures { result ≡ wide_of distance }
+{
+    if distance == FAR {
+        UNREACHED
+    } else {
+        distance as u64
     }
 }

@@ -13,7 +13,7 @@ ghost use Rattle.kernel_sssp.specs.Distances.{LinkOut, IsSearched};
 ghost use Rattle.kernel_sssp.specs.Certain.{AreCertain};
 
 use crate::certain::are_certain;
-use crate::distances::table_by;
+use crate::distances::{table_by, widened};
 use crate::search::BucketSearch;
 use crate::team::find_together;
 use crate::width::{suits_workers, width_for};
@@ -106,8 +106,8 @@ fn search_together<R: Threads + Sync>(
     let Some(distances) = find_together(rt, alloc, image, root, width, threads)? else {
         return Ok(None);
     };
-    if are_certain(rt, image, root, &distances) {
-        Ok(Some(distances))
+    if are_certain(rt, image, root, distances.as_slice()) {
+        Ok(Some(widened(alloc, distances.as_slice())?))
     } else {
         Ok(None)
     }

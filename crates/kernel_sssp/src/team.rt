@@ -9,7 +9,6 @@
 ghost use Rattle.std.specs.Prelude.{◌<◌, length};
 ghost use Rattle.std.specs.Thread.{IsSync};
 
-use crate::distances::UNREACHED;
 use crate::worker::{FAR, Offer, Offers, Sharing, Worker};
 use graph_image::{Image, NoMemory};
 use std::alloc::Global;
@@ -46,7 +45,7 @@ pub fn find_together<R: Threads + Sync>(
     root: usize,
     width: u32,
     workers: usize,
-) -> Result<Option<Vec<u64>>, NoMemory> {
+) -> Result<Option<Vec<u32>>, NoMemory> {
     let mut team = Team::new(alloc, image.len(), root, width, workers)?;
     let mut made = 0usize;
     'rounds: for round in 0..MOST_ROUNDS {
@@ -57,7 +56,7 @@ pub fn find_together<R: Threads + Sync>(
                 workers: _,
                 offers: _,
             } = team;
-            return Ok(Some(widened(alloc, distances.as_slice())?));
+            return Ok(Some(distances));
         }
         made = made.saturating_add(team.visits());
         if round >= TRIED && made / round < FEW {
@@ -195,20 +194,6 @@ fn lesser(a: Option<u64>, b: Option<u64>) -> Option<u64> {
         (Some(a), None) => Some(a),
         (None, b) => b,
     }
-}
-
-/// The distances, each in 64 bits.
-fn widened(alloc: Global, distances: &[u32]) -> Result<Vec<u64>, NoMemory> {
-    let mut wide = Vec::with_capacity(alloc, distances.len())?;
-    'distances: for i in 0..distances.len() {
-        let distance = distances[i];
-        wide.push(if distance == FAR {
-            UNREACHED
-        } else {
-            distance as u64
-        })?;
-    }
-    Ok(wide)
 }
 
 /// Has each worker look at the arcs out of what it visits, on so many threads.

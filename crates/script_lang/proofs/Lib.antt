@@ -1,4 +1,4 @@
-pub mod AheadLemmas
+pub mod EarlyLemmas
 pub mod PlaceLemmas
 pub mod FaultLemmas
 pub mod LineLemmas

@@ -5,7 +5,7 @@ pub mod Values
 pub mod Results
 pub mod Scripts
 pub mod Runnable
-pub mod Ahead
+pub mod Early
 pub mod Readings
 pub mod Schedules
 pub mod Places

@@ -7,9 +7,9 @@
 //! the same three in `specs/`, and the laws by cases on a word.
 #![tactic(auto)]
 
-mod ahead;
 mod arguments;
 mod command;
+mod early;
 mod laws;
 mod names;
 mod reading;
@@ -18,7 +18,7 @@ mod schedule;
 mod script;
 mod word;
 
-pub use ahead::read_ahead;
+pub use early::read_early;
 pub use laws::limits_are_as_written;
 pub use names::Names;
 pub use refusal::{ScheduleRefusal, ScheduleWhat, ScriptRefusal, ScriptWhat};

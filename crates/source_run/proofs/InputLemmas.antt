@@ -9,8 +9,8 @@ use Rattle.script_lang.specs.declared.refusal.ScriptRefusal.{ScriptRefusal}
 use Rattle.script_lang.specs.declared.refusal.ScriptRefusal.TheVariants as scripts
 use Rattle.script_lang.specs.Scripts.{script_of, files_of, IsRefused}
 use Rattle.script_lang.specs.Runnable.{IsRunnable}
-use Rattle.script_lang.specs.Ahead.{IsAhead}
-use Rattle.script_lang.proofs.AheadLemmas.{none_more}
+use Rattle.script_lang.specs.Early.{IsEarly}
+use Rattle.script_lang.proofs.EarlyLemmas.{none_more}
 use Rattle.std.proofs.Math.Seq.{take-suc}
 use Rattle.std.proofs.Math.Dec.{eqb}
 use Rattle.std.proofs.lemmas.Bool.{eqb-true}
@@ -87,21 +87,21 @@ names_stay first taken scripts is same =
 pub names_right : (first taken : List (List ℕ)) (scripts : List (List Command)) (now before : ℕ) → taken ≡ taken_behind first scripts → now ≡ length taken → before ≡ length first → eqb now before ≡ true → taken ≡ first
 names_right first taken scripts now before is n b same = let alike = eqb-true now before same in names_stay first taken scripts is (omega (arith, n, b, alike))
 
--- what is taken out of what was read ahead leaves nothing to hold
-pub ahead_without : (taken : List (List ℕ)) (texts : List (List ℕ)) (ahead : List (Option (List Command))) (k : ℕ) → AllZip (IsAhead taken) texts ahead → AllZip (IsAhead taken) texts (slice_set ahead k None)
-ahead_without taken [] [] zero all = tt
-ahead_without taken [] [] (suc k) all = tt
-ahead_without taken [] (read ∷ ahead) k all = absurd all
-ahead_without taken (text ∷ texts) [] k all = absurd all
-ahead_without taken (text ∷ texts) (read ∷ ahead) zero all = (tt, all.1)
-ahead_without taken (text ∷ texts) (read ∷ ahead) (suc k) all = (all.0, ahead_without taken texts ahead k all.1)
+-- what is taken out of what was read early leaves nothing to hold
+pub early_without : (taken : List (List ℕ)) (texts : List (List ℕ)) (early : List (Option (List Command))) (k : ℕ) → AllZip (IsEarly taken) texts early → AllZip (IsEarly taken) texts (slice_set early k None)
+early_without taken [] [] zero all = tt
+early_without taken [] [] (suc k) all = tt
+early_without taken [] (read ∷ early) k all = absurd all
+early_without taken (text ∷ texts) [] k all = absurd all
+early_without taken (text ∷ texts) (read ∷ early) zero all = (tt, all.1)
+early_without taken (text ∷ texts) (read ∷ early) (suc k) all = (all.0, early_without taken texts early k all.1)
 
--- what was read ahead of a text
-pub ahead_of : (taken : List (List ℕ)) (texts : List (List ℕ)) (ahead : List (Option (List Command))) (k : ℕ) (text d : List ℕ) (read e : Option (List Command)) → AllZip (IsAhead taken) texts ahead → k < length texts → text ≡ get_or texts k d → read ≡ get_or ahead k e → IsAhead taken text read
-ahead_of taken [] ahead k text d read e all lt there found = absurd (omega (arith, lt))
-ahead_of taken (t ∷ texts) [] k text d read e all lt there found = absurd all
-ahead_of taken (t ∷ texts) (r ∷ ahead) zero text d read e all lt there found = subst (λ x. IsAhead taken text x) (sym found) (subst (λ x. IsAhead taken x r) (sym there) all.0)
-ahead_of taken (t ∷ texts) (r ∷ ahead) (suc k) text d read e all lt there found = ahead_of taken texts ahead k text d read e all.1 (omega (arith, lt)) there found
+-- what was read early of a text
+pub early_of : (taken : List (List ℕ)) (texts : List (List ℕ)) (early : List (Option (List Command))) (k : ℕ) (text d : List ℕ) (read e : Option (List Command)) → AllZip (IsEarly taken) texts early → k < length texts → text ≡ get_or texts k d → read ≡ get_or early k e → IsEarly taken text read
+early_of taken [] early k text d read e all lt there found = absurd (omega (arith, lt))
+early_of taken (t ∷ texts) [] k text d read e all lt there found = absurd all
+early_of taken (t ∷ texts) (r ∷ early) zero text d read e all lt there found = subst (λ x. IsEarly taken text x) (sym found) (subst (λ x. IsEarly taken x r) (sym there) all.0)
+early_of taken (t ∷ texts) (r ∷ early) (suc k) text d read e all lt there found = early_of taken texts early k text d read e all.1 (omega (arith, lt)) there found
 
 -- one element more
 pub one_more : {X : Type 0} (xs : List X) (i : ℕ) (d : X) → i < length xs → take i xs ++ get_or xs i d ∷ [] ≡ take (i + 1) xs

@@ -3,7 +3,7 @@
 //! 1. The sources are parsed in the order in which they were read, so the first one with a fault is the one that
 //!    is named.
 //! 2. The names that a script may not use grow by the files of each script, in order.
-//! 3. Several threads read the scripts ahead, each as if those before it asked for no file. Where one does, those after
+//! 3. Several threads read the scripts early, each as if those before it asked for no file. Where one does, those after
 //!    it are read again.
 
 ghost use Rattle.std.specs.Prelude.{◌≡◌, ◌≤◌, ◌<◌, ◌++◌, ℕ, List, true, length, get_or, All, Ok, IfOk, IfErr};
@@ -14,7 +14,7 @@ ghost use Rattle.graph_files.specs.EdgeFiles.{edges_of};
 ghost use Rattle.command_words.specs.Words.{taken_names};
 ghost use Rattle.command_words.specs.Views.{run_request, taken_name};
 ghost use Rattle.graph_files.specs.Weights.{AreReadable};
-ghost use Rattle.script_lang.specs.Ahead.{IsAhead};
+ghost use Rattle.script_lang.specs.Early.{IsEarly};
 ghost use Rattle.script_lang.specs.Runnable.{IsRunnable};
 ghost use Rattle.script_lang.specs.Scripts.{script_of, files_of, IsRefused};
 ghost use Rattle.source_run.specs.Requests.{weights_of, rules_of};
@@ -31,7 +31,7 @@ use graphalytics_io::Edges;
 use items::Items;
 use run_model::{Name, Script};
 use script_lang::{
-    Names, Schedule, ScheduleRefusal, ScriptRefusal, read_ahead, read_schedule, read_script,
+    Names, Schedule, ScheduleRefusal, ScriptRefusal, read_early, read_schedule, read_script,
 };
 use std::alloc::Global;
 use std::thread::Threads;
@@ -139,12 +139,12 @@ fn parse_scripts<R: Threads + Sync>(
     ensures runnable { IfOk result (AreRunnable taken.old) }
     ensures refused { IfErr result (IsScriptStop taken.old texts.now) }
 {
-    let mut ahead = read_ahead(rt, alloc, texts, taken)?;
+    let mut early = read_early(rt, alloc, texts, taken)?;
     let before = taken.len();
     let mut scripts = Items::new(alloc);
     'texts: for k in 0..texts.len() {
-        // What was read ahead is right as long as no script has asked for a file.
-        let read = take_read(&mut ahead, k, taken.len() == before);
+        // What was read early is right as long as no script has asked for a file.
+        let read = take_read(&mut early, k, taken.len() == before);
         // A fault of a script knows its line alone; which source it is in is added here.
         let script = match read_behind(alloc, texts[k].as_slice(), read, taken) {
             Ok(script) => script,
@@ -155,37 +155,37 @@ fn parse_scripts<R: Threads + Sync>(
     Ok(scripts)
 }
 
-/// Takes out what was read ahead of the text at a place, if it is right.
-fn take_read(ahead: &mut Vec<Option<Script>>, place: usize, is_right: bool) -> Option<Script>
+/// Takes out what was read early of the text at a place, if it is right.
+fn take_read(early: &mut Vec<Option<Script>>, place: usize, is_right: bool) -> Option<Script>
     ensures read { (first now : List (List ℕ)) (texts : List (List ℕ)) (text none : List ℕ)
-        → AllZip (IsAhead first) texts ahead.old.items → place < length texts → text ≡ get_or texts place none
-        → (is_right ≡ true → now ≡ first) → IsAhead now text result }
-    ensures left { (first : List (List ℕ)) (texts : List (List ℕ)) → AllZip (IsAhead first) texts ahead.old.items
-        → AllZip (IsAhead first) texts ahead.new.items }
+        → AllZip (IsEarly first) texts early.old.items → place < length texts → text ≡ get_or texts place none
+        → (is_right ≡ true → now ≡ first) → IsEarly now text result }
+    ensures left { (first : List (List ℕ)) (texts : List (List ℕ)) → AllZip (IsEarly first) texts early.old.items
+        → AllZip (IsEarly first) texts early.new.items }
 {
     if !is_right {
         return None;
     }
-    match ahead.get_mut(place) {
+    match early.get_mut(place) {
         Some(read) => read.take(),
         None => None,
     }
 }
 
-/// The script that was read ahead, if it was; else it is read now.
+/// The script that was read early, if it was; else it is read now.
 fn read_behind(
     alloc: Global,
     text: &[u8],
-    ahead: Option<Script>,
+    early: Option<Script>,
     taken: &mut Names,
 ) -> Result<Script, ScriptRefusal>
-    requires { IsAhead taken.old text.now ahead }
+    requires { IsEarly taken.old text.now early }
     ensures ok { IfOk result (λ script. script_of taken.old text.now ≡ Ok script) }
     ensures names { IfOk result (λ script. taken.new ≡ taken.old ++ files_of script) }
     ensures runnable { IfOk result (IsRunnable taken.old) }
     ensures fault { IfErr result (IsRefused (script_of taken.old text.now)) }
 {
-    match ahead {
+    match early {
         Some(script) => Ok(script),
         None => read_script(alloc, text, taken),
     }

@@ -4,7 +4,7 @@ use Rattle.std.specs.Prelude.{Result, Ok, IfOk}
 use Rattle.std.specs.List.{AllZip}
 use Rattle.std.proofs.Math.Seq.{take-suc}
 use Rattle.run_model.specs.declared.command.Command.{Command}
-use Rattle.script_lang.specs.Ahead.{IsScriptAlone}
+use Rattle.script_lang.specs.Early.{IsScriptAlone}
 use Rattle.script_lang.specs.Runnable.{IsRunnable}
 use Rattle.script_lang.specs.Scripts.{script_of, files_of}
 

@@ -1,5 +1,5 @@
 use Rattle.std.proofs.Common.{◌+◌, ◌*◌}
-use Rattle.script_lang.proofs.ahead.+texts.Given as goal
+use Rattle.script_lang.proofs.early.+texts.Given as goal
 
 abbrev pub decreases-read_texts : goal.decreases-read_texts
 decreases-read_texts g l = 4 * l.cuts + 3

@@ -11,5 +11,5 @@ pub record IsScriptAlone (taken : List (List ℕ)) (text : List ℕ) (script : L
   pub files : files_of script ≡ []
 
 -- what was read of a text, if anything was
-abbrev pub IsAhead : List (List ℕ) → List ℕ → Option (List Command) → Type 0
-IsAhead taken text read = IfSome read (IsScriptAlone taken text)
+abbrev pub IsEarly : List (List ℕ) → List ℕ → Option (List Command) → Type 0
+IsEarly taken text read = IfSome read (IsScriptAlone taken text)

@@ -1,8 +1,0 @@
--- what was read of the texts so far
-use Rattle.std.proofs.Common.{take}
-use Rattle.std.specs.List.{AllZip}
-use Rattle.script_lang.specs.Ahead.{IsAhead}
-use Rattle.script_lang.proofs.ahead.read_each.Given as goal
-
-abbrev pub invariant-texts : goal.invariant-texts
-invariant-texts l = AllZip (IsAhead l.taken) (take l.text-index l.texts) l.ahead.items
