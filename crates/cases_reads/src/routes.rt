@@ -25,8 +25,8 @@ pub struct OldRoute {
     pub again: Tried,
 }
 
-/// Makes a store of two passes. The worker of the second one does the first case, and then the other one while a
-/// transaction of the first pass is open, which looks for the vertex before and afterwards.
+/// Makes a store of two passes or more. The worker of the last one does the first case, and then the other one while a
+/// transaction of the pass before it is open, which looks for the vertex before and afterwards.
 pub fn run_with_route<R: Wait, A: EngineCase, B: EngineCase>(
     rt: &R,
     alloc: Global,
@@ -35,7 +35,7 @@ pub fn run_with_route<R: Wait, A: EngineCase, B: EngineCase>(
     before: &mut A,
     beside: &mut B,
 ) -> Result<Option<OldRoute>, StoreRefusal>
-    requires passes { config.passes ≡ 2 }
+    requires passes { 2 ≤ config.passes }
     requires within { v ≤ MAX_ID }
 {
     let (store, mut passes) = match new(alloc, config) {
@@ -58,7 +58,7 @@ fn run_two<R: Wait, A: EngineCase, B: EngineCase, H: Home>(
     beside: &mut B,
 ) -> Option<OldRoute>
     requires home { H.home ≡ Some store.now }
-    requires passes { store.now.accounts.config.passes ≡ 2 }
+    requires passes { 2 ≤ store.now.accounts.config.passes }
     requires within { v ≤ MAX_ID }
     requires idle { AreIdle store.now list.old.items }
     ensures { AreIdle store.now list.new.items }

@@ -3,6 +3,7 @@
 use crate::busy::ReadHeldCell;
 use crate::routes::{OldRoute, run_with_route};
 use crate::rows::{ReadOwnWrite, ReadRuns, ReadSettled};
+use crate::settled::AddAndServe;
 use crate::txns::FoundRun;
 use cases_shared::run_case;
 use cases_workers::below::{Tried, TriedRun};
@@ -11,11 +12,11 @@ use graph_model::{Key, Kind};
 use std::test::Fail;
 use txn_manager::Config;
 
-/// Two passes on four leaves.
+/// Three passes on four leaves.
 const CONFIG: Config = Config {
     kind: Kind::Undirected,
     leaves: 4,
-    passes: 2,
+    passes: 3,
     txns_per_pass: 2,
 };
 
@@ -148,13 +149,9 @@ fn serve_often(turns: u32) -> ServeOften {
 /// The 33rd vertex spreads the rows of the first cell over two, 16 in each.
 #[test]
 fn a_cell_whose_rows_were_spread_has_other_keys(rt: HostRuntime) -> Result<(), Fail> {
-    let config = Config {
-        txns_per_pass: 4,
-        ..CONFIG
-    };
-    let mut before = add_vertices(0);
+    let mut before = serve_often(0);
     let mut rows = add_vertices(33);
-    let found = run_with_route(&rt, rt.alloc(), config, 40, &mut before, &mut rows)?;
+    let found = run_with_route(&rt, rt.alloc(), CONFIG, 40, &mut before, &mut rows)?;
     let missing = Tried::Value { weight: None };
     let want = OldRoute {
         first: missing,
@@ -166,6 +163,28 @@ fn a_cell_whose_rows_were_spread_has_other_keys(rt: HostRuntime) -> Result<(), F
     };
     assert_eq!(rt; found, Some(want));
     assert_eq!(rt; rows.added, 33);
+    Ok(())
+}
+
+/// 40 vertices take two cells. Once turns of the service have swept them, none of which changes a cell any more, the
+/// first of them are read without a latch.
+#[test]
+fn a_vertex_that_the_service_has_swept_is_read_in_its_cell(rt: HostRuntime) -> Result<(), Fail> {
+    let mut before = AddAndServe {
+        vertices: add_vertices(40),
+        service: serve_often(60),
+    };
+    let mut nothing = serve_often(0);
+    let found = run_with_route(&rt, rt.alloc(), CONFIG, 7, &mut before, &mut nothing)?;
+    let there = Tried::Value { weight: Some(0) };
+    let want = OldRoute {
+        first: there,
+        later: there,
+        again: there,
+    };
+    assert_eq!(rt; found, Some(want));
+    assert_eq!(rt; before.vertices.added, 40);
+    assert!(rt; before.service.still > 20);
     Ok(())
 }
 

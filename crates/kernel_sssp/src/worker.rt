@@ -21,6 +21,9 @@ pub const FAR: u32 = 4294967295;
 /// so they are made too soon, and made again where their places get lesser distances.
 const SLOTS: u64 = 64;
 
+/// For so many arcs of a place it is read ahead where they lead: a place with many more fills the cache by itself.
+const FIRST_ARCS: usize = 32;
+
 /// How places are shared out, and which bucket is at hand.
 #[derive(Clone, Copy)]
 pub struct Sharing {
@@ -202,7 +205,9 @@ impl Offers {
             }
         }
         let places = places.get(..count).unwrap_or(&[]);
-        self.sum = self.sum.wrapping_add(sum_of_ends(image, places));
+        let ends = sum_of_ends(image, places);
+        let others = sum_of_others(image, distances, places);
+        self.sum = self.sum.wrapping_add(ends).wrapping_add(others);
         'places: for i in 0..places.len() {
             self.follow(image, share, distances, places[i] as usize)?;
         }
@@ -235,4 +240,23 @@ impl Offers {
         }
         Ok(())
     }
+}
+
+/// The sum of the distances to which the first arcs of the places lead.
+fn sum_of_others(image: &Image, distances: &[u32], places: &[u32]) -> u64 {
+    let mut sum = 0u64;
+    'places: for i in 0..places.len() {
+        let place = places[i] as usize;
+        if place < image.len() {
+            let arcs = image.out(place);
+            let count = arcs.len().min(FIRST_ARCS);
+            'arcs: for k in 0..count {
+                let other = arcs[k].other as usize;
+                if other < distances.len() {
+                    sum = sum.wrapping_add(distances[other] as u64);
+                }
+            }
+        }
+    }
+    sum
 }
