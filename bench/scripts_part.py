@@ -1,10 +1,11 @@
 #!/usr/bin/env python3
-"""Times the scripts' part of runs with --threads: from the first thread's begin to the end of the last one.
+"""Times the scripts' part of runs with --threads: from the first thread's begin to the end of each one.
 
     scripts_part.py PROGRAM TIMES -- run --vertices V --edges E --journal J --threads N SCRIPT..
 
-Runs the program so often and prints the seconds of each run's part after the load. The kernel tells when
-`run_blocks` of thread_runner is entered and left: that takes Linux with uprobes, its tracing file system at
+Runs the program so often and prints a line for each run: after how many seconds of its part after the load the first
+thread had no script any more, the second, and so on to the last. The kernel tells when `run_blocks` of thread_runner is
+entered and left: that takes Linux with uprobes, its tracing file system at
 /sys/kernel/tracing, `perf`, `nm` and `readelf`, and root. Reports and the journal of a run are removed before the next.
 """
 
@@ -52,14 +53,22 @@ def drop_probes():
 
 
 def seconds_of(program, words):
-    """How long the scripts' part of one run takes."""
+    """After how long each thread of the scripts' part of one run has none any more."""
     with tempfile.NamedTemporaryFile() as record:
         names = ",".join(f"{GROUP}:{name}" for name in EVENTS.values())
         subprocess.run(["perf", "record", "-q", "-e", names, "-o", record.name, "--", program, *words],
                        stdout=subprocess.DEVNULL, check=True)
-        told = words_of("perf", "script", "-i", record.name, "-F", "time")
-    times = [float(time) for time in re.findall(r"([\d.]+):", told)]
-    return max(times) - min(times)
+        told = words_of("perf", "script", "-i", record.name, "-F", "tid,time,event")
+    events = [(float(time), name, thread)
+              for thread, time, name in re.findall(rf"(\d+)\s+([\d.]+):\s+{GROUP}:(\w+):", told)]
+    begun = min(time for time, _, _ in events)
+    last, ends = {}, []
+    for time, name, thread in events:
+        # A thread that leaves what it has just entered has run its scripts; the others wait for two of these.
+        if name == "leave" and last[thread] == "enter":
+            ends.append(time - begun)
+        last[thread] = name
+    return sorted(ends)
 
 
 def main():
@@ -71,7 +80,7 @@ def main():
         for _ in range(times):
             for file in [journal, *pathlib.Path(".").glob("*.report")]:
                 file.unlink(missing_ok=True)
-            print(f"{seconds_of(program, words):.3f}", flush=True)
+            print(*(f"{seconds:.3f}" for seconds in seconds_of(program, words)), flush=True)
     finally:
         drop_probes()
 
