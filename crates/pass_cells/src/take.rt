@@ -33,7 +33,7 @@ impl PassCells {
         ensures held { AreHeld (held_rows self.new.taken.list.items) keys.now }
         ensures kept { KeepsPass pass.old pass.new }
     {
-        self.hints.survey_once(store);
+        self.hints.survey(store);
         // Hints first: the index is one latch for all passes, and asking it at each write would have them wait for each
         // other.
         let mut guesses = self.hints.of_all(store, keys);

@@ -57,5 +57,5 @@ fn survey(store: &Store, pass: &mut Pass)
     requires opened { IsOpen store.now pass.old }
     ensures kept { KeepsOpen store.now pass.old pass.new }
 {
-    pass.cells.hints.survey_once(store);
+    pass.cells.hints.survey(store);
 }

@@ -55,7 +55,7 @@ impl NextLeaf {
     ) -> Option<LikelyLeaf> {
         // Where the number is right too: a turn that takes the leaf asks the hints, and those of a worker that has only
         // served, and never written, know no leaf.
-        hints.survey_once(store);
+        hints.survey(store);
         let found = match leaf_with(store, self.leaf, key) {
             Some(found) => found,
             None => leaf_with(store, hints.leaf_of(key), key)?,

@@ -89,6 +89,6 @@ fn likely_route(store: &Store, hints: &mut CellHints, key: Key) -> Option<Route>
 
 /// The number that a hint has for it, which may be of no cell.
 pub(crate) fn likely_cell(store: &Store, hints: &mut CellHints, key: Key) -> u32 {
-    hints.survey_once(store);
+    hints.survey(store);
     hints.of_all(store, &[key])[0]
 }
