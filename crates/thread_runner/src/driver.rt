@@ -99,7 +99,7 @@ fn run_beside<R: Threads + Sync, E: VertexEngine + PartScan + Send, G: Gate>(
 }
 
 /// How many readers scan the rows of a kernel: the worker that has its line, and those that have no job.
-fn readers_for(jobs: usize, workers: u32) -> u32
+pub fn readers_for(jobs: usize, workers: u32) -> u32
     requires workers { 0 < workers }
     ensures some { 0 < result }
     ensures few { result ≤ workers }
