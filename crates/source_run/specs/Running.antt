@@ -135,10 +135,10 @@ pub record IsConfig (kind : Kind) (leaves : ℕ) (scripts : List (List Command))
   pub some : 0 < config.txns_per_pass
   pub no_more : (config.txns_per_pass ≡ 1) ⊎ Begins scripts config.txns_per_pass
 
--- The same with passes by which kernels read, behind those of the load and of the scripts: one for each reader, or as
+-- The same with passes by which kernels read, behind those of the load and of the scripts: one for each thread, or as
 -- many as a store may still have
 abbrev pub with_readers : ℕ → Config → Config
-with_readers readers config = record config { passes = config.passes + min readers (MAX_PASSES - config.passes) }
+with_readers threads config = record config { passes = config.passes + min threads (MAX_PASSES - config.passes) }
 
 -- the engine of some scripts before its first call
 abbrev pub IsNewEngine : Core → Type 0

@@ -21,7 +21,6 @@ use graphalytics_io::writes_of;
 use std::alloc::Global;
 use std::sync::Wait;
 use std::thread::Threads;
-use threaded_run::below::readers_for;
 use threaded_run::{ThreadedRun, run_on_threads};
 use txn_manager::Config;
 
@@ -48,8 +47,7 @@ pub fn run_by_threads<R: Threads + Wait + Sync, G: Gate>(
     ensures refused { IfErr result (IsRefusedLoad kind leaves input.ids input.edges) }
 {
     let config = config_of(kind, leaves, input.scripts.as_slice());
-    let readers = readers_for(input.scripts.len(), workers);
-    let config = with_readers(config, readers);
+    let config = with_readers(config, workers);
     let Input {
         ids,
         edges,
@@ -63,16 +61,16 @@ pub fn run_by_threads<R: Threads + Wait + Sync, G: Gate>(
     run_on_threads(rt, alloc, config, load, scripts, workers, gate)
 }
 
-/// The same store with passes by which so many readers read for a kernel, as long as a store may have more.
-fn with_readers(config: Config, readers: u32) -> Config
+/// The same store with passes by which kernels read, one for each of so many threads, as long as a store may have more.
+fn with_readers(config: Config, threads: u32) -> Config
     requires { too_large config ≡ false }
-    ensures config { result ≡ with_readers readers config }
+    ensures config { result ≡ with_readers threads config }
     ensures fits { too_large result ≡ false }
 {
-    // Beside many scripts there are fewer: what a kernel reads is cut into fewer parts then.
+    // Beside many scripts there are fewer than threads: what a kernel reads is cut into fewer parts then.
     let left = MAX_PASSES - config.passes;
     Config {
-        passes: config.passes + readers.min(left),
+        passes: config.passes + threads.min(left),
         ..config
     }
 }

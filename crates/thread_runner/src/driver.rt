@@ -4,8 +4,7 @@
 //!    its block, one job after the other.
 //! 2. The service takes its turns beside them.
 //! 3. Where a job wants memory, it is taken back, and the others go on.
-//! 4. The rows of a kernel are read by as many readers as there are workers without a job of their own, and one more:
-//!    so a run has about as many threads as it was told, whatever its scripts ask for.
+//! 4. The rows of a kernel are read by as many readers as there are workers.
 
 ghost use Rattle.std.specs.Prelude.{◌≡◌, ◌<◌, ◌≤◌, ◌+◌, ◌-◌, ◌^◌, ◌||◌, min, length, true, false, None, OnOk, OnErr};
 ghost use Rattle.std.specs.List.{AllZip, AllByRecursion};
@@ -79,7 +78,6 @@ fn run_beside<R: Threads + Sync, E: VertexEngine + PartScan + Send, G: Gate>(
         → E.served service.new ≡ min (E.served service.old + turns) (2 ^ 64 - 1) }
     ensures service { ReadsBy (E.account service.old) (E.account service.new) }
 {
-    let readers = readers_for(seats.len(), workers);
     // Joined, so that both have let go of the store before the caller takes it apart.
     let ((), wanted) = join_mut(
         rt,
@@ -89,23 +87,13 @@ fn run_beside<R: Threads + Sync, E: VertexEngine + PartScan + Send, G: Gate>(
                 × ReadsBy (E.account service.entry.now) (E.account service.exit.now) }
         { serve(rt, service, turns) },
         &mut || -> bool
-            requires { IsSync R.row × IsSend E.row × IsSync G.row × (0 < workers) × (0 < readers) × (readers ≤ 32)
+            requires { IsSync R.row × IsSend E.row × IsSync G.row × (0 < workers) × (workers ≤ 32)
                 × AllByRecursion (IsSeat E.account) seats.now }
             ensures { AllZip (HasRun E.account) seats.entry.now seats.exit.now
                 × (result ≡ some_gave_up seats.entry.now seats.exit.now) }
-        { run_blocks(rt, seats, workers, readers, gate) },
+        { run_blocks(rt, seats, workers, workers, gate) },
     );
     wanted
-}
-
-/// How many readers scan the rows of a kernel: the worker that has its line, and those that have no job.
-pub fn readers_for(jobs: usize, workers: u32) -> u32
-    requires workers { 0 < workers }
-    ensures some { 0 < result }
-    ensures few { result ≤ workers }
-{
-    let busy = jobs.max(1).min(workers as usize) as u32;
-    workers - busy + 1
 }
 
 /// Takes so many turns of the service. One that is refused memory has changed nothing.

@@ -11,6 +11,6 @@ mod driver;
 mod laws;
 mod over;
 
-pub use driver::{readers_for, run_threads};
+pub use driver::run_threads;
 pub use laws::{new_scripts_run, parts_are_cut_alike, turns_by_account_run_scripts};
 pub use over::JobsOver;

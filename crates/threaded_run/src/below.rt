@@ -1,4 +1,3 @@
 //! What crates above name of crates that they don't list.
 
 pub use rebalance_service::below::Closed;
-pub use thread_runner::readers_for;
