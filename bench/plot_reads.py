@@ -19,8 +19,8 @@ SECTION = "## Reads beside writers"
 COLOURS = {"nobody": BLUE, "a writer": RED}
 TITLE = "Millions of point reads a second, alone and beside a writer"
 DESCRIPTION = ("Reads by one, two and three threads, of a settled store of 8,000,000 rows and of an ordered map under a "
-               "lock. Those of the store are as fast beside a writer as alone, which makes more than 100,000 transactions a "
-               "second meanwhile; that of the map makes 10,000 at most.")
+               "lock. Those of the store lose a twentieth at most beside a writer, which makes more than 230,000 transactions "
+               "a second meanwhile; that of the map makes 10,500 at most.")
 
 
 def rows_of_table():

@@ -4,25 +4,26 @@ ghost use Rattle.std.specs.Prelude.{◌≡◌, ◌≤◌, None, IsSome};
 ghost use Rattle.graph_model.specs.declared.limits.TheConstants.{MAX_ID};
 
 use crate::case::EngineCase;
-use graph_model::{BeginRefusal, Cursor, Engine, Key, Refusal, Rows64, VertexEngine};
+use graph_model::{BeginRefusal, Begun, Cursor, Engine, Key, Refusal, Rows64, VertexEngine};
 
 /// Begins and commits, begins and takes back, and begins again.
 #[derive(Clone, Copy, Debug, PartialEq, Eq)]
 pub struct BeginOften {
-    /// Which transactions began.
-    pub began: [bool; 2],
+    /// The transaction that committed, with what that answered.
+    pub committed: Option<(Begun, Option<u64>)>,
+    /// The one that was taken back.
+    pub aborted: Option<Begun>,
     /// What the last begin was refused with, if it was.
     pub refused: Option<BeginRefusal>,
 }
 
 impl EngineCase for BeginOften {
     fn run<E: VertexEngine>(&mut self, engine: &mut E) {
-        if let Ok(_) = engine.begin() {
-            self.began[0] = true;
-            engine.commit();
+        if let Ok(begun) = engine.begin() {
+            self.committed = Some((begun, engine.commit()));
         }
-        if let Ok(_) = engine.begin() {
-            self.began[1] = true;
+        if let Ok(begun) = engine.begin() {
+            self.aborted = Some(begun);
             engine.abort();
         }
         match engine.begin() {

@@ -3,7 +3,7 @@
 use crate::case::run_case;
 use crate::rows::{AddEachSecond, AddVertices, BeginOften, CutBack, ScanOften, ServeOften};
 use crate::three::run_together;
-use graph_model::{BeginRefusal, Kind, Refusal};
+use graph_model::{BeginRefusal, Begun, Kind, Refusal, TxnName};
 use std::test::Fail;
 use txn_manager::Config;
 
@@ -26,23 +26,42 @@ fn add_vertices(count: u32) -> AddVertices {
     }
 }
 
+/// The second of three passes, while the others do nothing.
 #[test]
 fn a_pass_begins_as_often_as_it_may(rt: HostRuntime) -> Result<(), Fail> {
     let config = Config {
+        kind: Kind::Undirected,
+        leaves: 4,
+        passes: 3,
         txns_per_pass: 2,
-        ..CONFIG
     };
     let mut often = BeginOften {
-        began: [false, false],
+        committed: None,
+        aborted: None,
         refused: None,
     };
-    run_case(&rt, rt.alloc(), config, &mut often)?;
+    let mut first = ServeOften {
+        turns: 0,
+        changed: 0,
+        still: 0,
+    };
+    let mut third = first;
+    run_together(&rt, rt.alloc(), config, &mut first, &mut often, &mut third)?;
     let want = BeginOften {
-        began: [true, true],
+        committed: Some((by_second_pass(1), None)),
+        aborted: Some(by_second_pass(2)),
         refused: Some(BeginRefusal::TxnsUsed),
     };
     assert_eq!(rt; often, want);
     Ok(())
+}
+
+/// A transaction of the second pass, which begins before all commits.
+fn by_second_pass(number: u32) -> Begun {
+    Begun {
+        by: TxnName { job: 1, number },
+        start: 0,
+    }
 }
 
 #[test]
