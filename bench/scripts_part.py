@@ -5,8 +5,8 @@
 
 Runs the program so often and prints a line for each run: after how many seconds of its part after the load the first
 thread had no script any more, the second, and so on to the last. The kernel tells when `run_blocks` of thread_runner is
-entered and left: that takes Linux with uprobes, its tracing file system at
-/sys/kernel/tracing, `perf`, `nm` and `readelf`, and root. Reports and the journal of a run are removed before the next.
+entered and left: that takes Linux with uprobes, its tracing file system at /sys/kernel/tracing, `perf`, `nm` and
+`readelf`, and root. Reports and the journal of a run are removed before the next.
 """
 
 import os
