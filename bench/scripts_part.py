@@ -5,8 +5,8 @@
 
 Runs the program so often and prints a line for each run: after how many seconds of its part after the load the first
 thread had no script any more, the second, and so on to the last. The kernel tells when `run_blocks` of thread_runner is
-entered and left: that takes Linux with uprobes, its tracing file system at /sys/kernel/tracing, `perf`, `nm` and
-`readelf`, and root. Reports and the journal of a run are removed before the next.
+entered and left: that takes Linux with uprobes, its tracing file system at /sys/kernel/tracing, `nm` and `readelf`, and
+root. Reports and the journal of a run are removed before the next.
 """
 
 import os
@@ -14,7 +14,6 @@ import pathlib
 import re
 import subprocess
 import sys
-import tempfile
 
 TRACING = pathlib.Path("/sys/kernel/tracing")
 FUNCTION = "thread_runner::driver::run_blocks"
@@ -49,21 +48,24 @@ def set_probes(program):
 
 def drop_probes():
     """Takes all probes away again."""
+    (TRACING / "events" / "enable").write_text("0", encoding="ascii")
     (TRACING / "uprobe_events").write_text("\n", encoding="ascii")
 
 
 def seconds_of(program, words):
     """After how long each thread of the scripts' part of one run has none any more."""
-    with tempfile.NamedTemporaryFile() as record:
-        names = ",".join(f"{GROUP}:{name}" for name in EVENTS.values())
-        subprocess.run(["perf", "record", "-q", "-e", names, "-o", record.name, "--", program, *words],
-                       stdout=subprocess.DEVNULL, check=True)
-        told = words_of("perf", "script", "-i", record.name, "-F", "tid,time,event")
+    (TRACING / "trace").write_text("\n", encoding="ascii")
+    # For the whole system: events of one process are handed on to each thread that it makes, which makes the threads of
+    # kernels several times as dear.
+    (TRACING / "events" / GROUP / "enable").write_text("1", encoding="ascii")
+    subprocess.run([program, *words], stdout=subprocess.DEVNULL, check=True)
+    (TRACING / "events" / GROUP / "enable").write_text("0", encoding="ascii")
+    told = (TRACING / "trace").read_text(encoding="utf-8", errors="replace")
     events = [(float(time), name, thread)
-              for thread, time, name in re.findall(rf"(\d+)\s+([\d.]+):\s+{GROUP}:(\w+):", told)]
+              for thread, time, name in re.findall(r"-(\d+)\s+\[\d+\]\s+\S+\s+([\d.]+):\s+(enter|leave):", told)]
     begun = min(time for time, _, _ in events)
     last, ends = {}, []
-    for time, name, thread in events:
+    for time, name, thread in sorted(events):
         # A thread that leaves what it has just entered has run its scripts; the others wait for two of these.
         if name == "leave" and last[thread] == "enter":
             ends.append(time - begun)

@@ -4,7 +4,7 @@
 //! 2. Where the numbers of all edges differ, each is listed once. Where not, second listings are looked for; the edges'
 //!    numbers are made again for that, since sorting has moved them.
 
-ghost use Rattle.std.specs.Prelude.{ℕ, List, ◌≡◌, ◌≤◌, ◌++◌, length, take, IfOk};
+ghost use Rattle.std.specs.Prelude.{ℕ, List, ◌≡◌, ◌≤◌, ◌++◌, true, length, take, IfOk};
 ghost use Rattle.std.specs.Bool.{OnTrue};
 ghost use Rattle.graphalytics_io.specs.declared.lines.FieldLine.{FieldLine};
 ghost use Rattle.graphalytics_io.specs.FieldLines.{field_lines};
@@ -19,7 +19,7 @@ use crate::listings::EdgesSoFar;
 use crate::seconds::{PartedListings, parts_of};
 use crate::weights::Weights;
 use graphalytics_io::{Edge, Edges, cuts_for, field_lines};
-use id_places::{are_distinct, numbers_of};
+use id_places::{are_distinct, are_distinct_by_threads, numbers_by_threads, numbers_of};
 use items::NoMemory;
 use std::alloc::Global;
 use std::thread::Threads;
@@ -75,16 +75,42 @@ pub(crate) fn read_lines(alloc: Global, text: &[u8], weights: Weights) -> Result
     })
 }
 
-/// Whether all ends are known, no edge is listed twice, and there are not too many.
-pub(crate) fn are_new(alloc: Global, edges: &[Edge], checks: &Checks) -> Result<bool, NoMemory>
-    ensures { IfOk result (λ new. OnTrue new
-        (AreNew checks.now.kind checks.now.known checks.now.most edges.now)) }
+/// Whether no line has a fault, all ends are known, no edge is listed twice, and there are not too many.
+pub(crate) fn are_new(alloc: Global, front: &Front, checks: &Checks) -> Result<bool, NoMemory>
+    ensures whole { IfOk result (λ new. OnTrue new (front.now.is_whole ≡ true)) }
+    ensures new { IfOk result (λ new. OnTrue new
+        (AreNew checks.now.kind checks.now.known checks.now.most front.now.edges)) }
 {
+    let edges = front.edges.as_slice();
+    if !front.is_whole || checks.most < edges.len() as u64 {
+        return Ok(false);
+    }
     let numbers = numbers_of(alloc, edges, &checks.known, checks.kind)?;
-    if numbers.len() < edges.len() || checks.most < edges.len() as u64 {
+    if numbers.len() < edges.len() {
         return Ok(false);
     }
     Ok(are_distinct(numbers))
+}
+
+/// The same, where several threads number the edges and compare them.
+pub(crate) fn are_new_by_threads<R: Threads + Sync>(
+    rt: &R,
+    alloc: Global,
+    front: &Front,
+    checks: &Checks,
+) -> Result<bool, NoMemory>
+    ensures whole { IfOk result (λ new. OnTrue new (front.now.is_whole ≡ true)) }
+    ensures new { IfOk result (λ new. OnTrue new
+        (AreNew checks.now.kind checks.now.known checks.now.most front.now.edges)) }
+{
+    let edges = front.edges.as_slice();
+    if !front.is_whole || checks.most < edges.len() as u64 {
+        return Ok(false);
+    }
+    match numbers_by_threads(rt, alloc, edges, &checks.known, checks.kind)? {
+        Some(numbers) => Ok(are_distinct_by_threads(rt, numbers)),
+        None => Ok(false),
+    }
 }
 
 /// What is kept of the lines before the first that has a fault, where the lines at the front have these edges by

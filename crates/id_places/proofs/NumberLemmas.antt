@@ -1,10 +1,13 @@
 -- Numbers of edges.
-use Rattle.std.proofs.Common.{◌≡◌, ℕ, ◌+◌, ◌<◌, ◌≤◌, true, List, [], ◌∷◌, ◌++◌, length, get_or, take, sym, subst, ap, ◌∙◌, arith, All}
+use Rattle.std.proofs.Common.{◌≡◌, ℕ, ◌+◌, ◌<◌, ◌≤◌, true, List, [], ◌∷◌, ◌++◌, length, get_or, map, refl, take, sym, subst, ap, ◌∙◌, arith, All}
 use Rattle.std.proofs.lemmas.List.{map_more, take_more, length-map, length-take}
-use Rattle.std.proofs.lemmas.List.Elements.{All-nil, All-push}
+use Rattle.std.proofs.lemmas.List.Elements.{All-cons, All-nil, All-push}
+use Rattle.std.specs.List.{AllZip}
+use Rattle.std.specs.Prelude.{IfOk, Ok}
+use Rattle.std.specs.declared.result.Result.{Result}
 use Rattle.graph_model.specs.declared.write.Kind.{Kind}
 use Rattle.graphalytics_io.specs.declared.edges.Edge.{Edge}
-use Rattle.id_places.specs.Places.{is_among, pair_in, AreNumbers}
+use Rattle.id_places.specs.Places.{is_among, pair_in, AreNumbers, IsNumberOf}
 
 module _ (kind : Kind) (ids : List ℕ) where
   abbrev IsSource : Edge → Type 0
@@ -32,3 +35,17 @@ module _ (kind : Kind) (ids : List ℕ) where
   numbers_end edges i n numbers inside long so_far =
       let same : i ≡ n = omega (arith, long, ap length so_far.each, length-map (take i edges) (pair_in kind ids), length-take i edges) in
       subst (λ k. AreNumbers kind ids (take k edges) numbers) same so_far
+
+  -- edges of which each is told its number
+  pub numbers_of_all : (E : Type 0) (edges : List Edge) (numbers : List ℕ) → AllZip (λ edge (told : Result ℕ E). IfOk told (IsNumberOf kind ids edge)) edges (map Ok numbers)
+      → AreNumbers kind ids edges numbers
+  numbers_of_all E [] [] each = no_numbers [] refl
+  numbers_of_all E [] (n ∷ ns) each = absurd each
+  numbers_of_all E (e ∷ es) [] each = absurd each
+  numbers_of_all E (e ∷ es) (n ∷ ns) each =
+      let rest = numbers_of_all E es ns each.1 in
+      record {
+        sources = All-cons IsSource e es each.0.source rest.sources;
+        targets = All-cons IsTarget e es each.0.target rest.targets;
+        each = ap (λ x. x ∷ ns) each.0.here ∙ ap (λ l. pair_in kind ids e ∷ l) rest.each;
+      }

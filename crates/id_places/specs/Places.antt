@@ -34,6 +34,12 @@ abbrev pub pair_in : Kind → List ℕ → Edge → ℕ
 pair_in kind ids edge =
     pair_of kind (position_or_len (λ id. id == edge.u) ids) (position_or_len (λ id. id == edge.v) ids)
 
+-- this is the number of an edge between the ids
+pub record IsNumberOf (kind : Kind) (ids : List ℕ) (edge : Edge) (number : ℕ) : Type 0 where
+  pub source : is_among ids edge.u ≡ true
+  pub target : is_among ids edge.v ≡ true
+  pub here : number ≡ pair_in kind ids edge
+
 -- these are the numbers of edges between the ids
 pub record AreNumbers (kind : Kind) (ids : List ℕ) (edges : List Edge) (numbers : List ℕ) : Type 0 where
   pub sources : All (λ edge. is_among ids edge.u ≡ true) edges

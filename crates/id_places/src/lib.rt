@@ -9,6 +9,6 @@ mod id_table;
 mod numbers;
 mod slots;
 
-pub use distinct::are_distinct;
+pub use distinct::{are_distinct, are_distinct_by_threads};
 pub use id_table::IdTable;
-pub use numbers::numbers_of;
+pub use numbers::{numbers_by_threads, numbers_of};

@@ -4,13 +4,19 @@
 
 ghost use Rattle.std.specs.Prelude.{◌≡◌, ◌≤◌, true, length, take, IfOk, IfSome};
 ghost use Rattle.std.specs.Vec.{vec_len};
-ghost use Rattle.id_places.specs.Places.{is_among, AreNumbers, pair_in, pair_of};
+ghost use Rattle.id_places.specs.Places.{is_among, AreNumbers, IsNumberOf, pair_in, pair_of};
 
 use crate::id_table::IdTable;
 use graph_model::Kind;
 use graphalytics_io::Edge;
 use items::NoMemory;
+use rayon::prelude::*;
 use std::alloc::Global;
+use std::thread::Threads;
+
+/// An end of an edge isn't known.
+#[derive(Clone, Copy)]
+struct UnknownEnd;
 
 /// The number of each edge, up to the first of which an end isn't known.
 pub fn numbers_of(
@@ -31,6 +37,38 @@ pub fn numbers_of(
         numbers.push(number)?;
     }
     Ok(numbers)
+}
+
+/// The number of each edge, made by several threads, if all ends are known.
+pub fn numbers_by_threads<R: Threads + Sync>(
+    rt: &R,
+    alloc: Global,
+    edges: &[Edge],
+    known: &IdTable,
+    kind: Kind,
+) -> Result<Option<Vec<u64>>, NoMemory>
+    ensures { IfOk result (λ found. IfSome found (λ numbers.
+        AreNumbers kind known.now edges.now numbers.items)) }
+{
+    let found: Result<Vec<u64>, UnknownEnd> = edges
+        .par_iter()
+        .map(
+            |edge: &Edge| -> Result<u64, UnknownEnd>
+                ensures { IfOk result (λ number. IsNumberOf kind known.entry.now edge.now number) }
+            { known_number(edge, known, kind) },
+        )
+        .collect(rt, alloc)?;
+    match found {
+        Ok(numbers) => Ok(Some(numbers)),
+        Err(UnknownEnd) => Ok(None),
+    }
+}
+
+/// The number of an edge, whose ends have to be known.
+fn known_number(edge: &Edge, known: &IdTable, kind: Kind) -> Result<u64, UnknownEnd>
+    ensures { IfOk result (λ number. IsNumberOf kind known.now edge.now number) }
+{
+    number_of(edge, known, kind).ok_or(UnknownEnd)
 }
 
 /// The number of an edge, if both ends are known.
