@@ -36,10 +36,7 @@ impl PassCells {
         ensures { IfOk result (λ own. own.taken.list.items ≡ []) }
     {
         let hints = CellHints::new(alloc, cells)?;
-        let list = match Vec::with_capacity(alloc, MOST_CELLS) {
-            Ok(list) => list,
-            Err(_) => return Err(NoMemory),
-        };
+        let list = Vec::with_capacity(alloc, MOST_CELLS)?;
         match work_space(alloc) {
             Ok((packed, laid)) => Ok(PassCells {
                 taken: TakenCells { list },

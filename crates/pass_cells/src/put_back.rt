@@ -16,8 +16,7 @@ use store_rule::{Pass, Store, StoreSlot};
 
 impl PassCells {
     /// Packs all cells in hand, puts each back, and then releases each. A cell of which no word changed keeps its
-    /// version.
-    /// Takes no memory.
+    /// version. Takes no memory.
     pub fn put_back(&mut self, store: &Store, pass: &mut Pass)
         requires taken { HasTaken store.now pass.old self.old.taken.list.items }
         ensures none { HoldsNone store.now pass.new × (self.new.taken.list.items ≡ []) }

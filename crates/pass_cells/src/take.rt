@@ -2,8 +2,8 @@
 //!
 //! 1. Cells are taken in the order of their fence keys: the least key that no cell in hand covers comes next.
 //! 2. A hint names the cell. All that are named are read before the first is taken, so that these reads wait for memory
-//!    together. Once a cell is held its fence keys tell whether it is the key's, and only where it isn't the index is
-//!    asked, with no cell in hand.
+//!    together. Once a cell is held its fence keys tell whether it is the key's. Where it isn't, hints are told what the
+//!    blocks of its leaf spell, and where that is no news the index is asked, with no cell in hand.
 //! 3. Hints may lag behind, and then two passes may want each other's cells. So a pass that holds a cell looks at the
 //!    next one a number of times, and gives all back where that stays busy.
 
@@ -45,7 +45,13 @@ impl PassCells {
             if self.take_guessed(rt, store, pass, keys, &guesses) {
                 return;
             }
-            guesses = self.ask(rt, store, pass, keys);
+            // Rows have moved within a leaf most often, as its blocks tell with no latch.
+            let again = self.hints.of_all_again(store, keys);
+            guesses = if again == guesses {
+                self.ask(rt, store, pass, keys)
+            } else {
+                again
+            };
         }
         unreachable!()
     }

@@ -41,9 +41,7 @@ impl TakenCell {
         let value = &self.held.value;
         !key.is_below(value.low()) && key.is_below(value.high())
     }
-}
 
-impl TakenCell {
     /// Whether the cell is the key's, and begins where others end, or above.
     pub(crate) fn follows(&self, key: Key, end: Key) -> bool
         ensures next { result ≡ true → is_below self.now.held.value.low end ≡ false }
