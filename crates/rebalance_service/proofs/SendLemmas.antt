@@ -15,7 +15,7 @@ use Rattle.worker_calls.proofs.LeafArrayMade.Leaf.TheSendSync as leaf
 use Rattle.worker_calls.proofs.PassCellsMade.TakenCell.TheSendSync as cell
 use Rattle.worker_calls.proofs.scan_place.ScanPlace.TheSendSync as place
 use Rattle.rebalance_service.proofs.serve.ServiceKeys.TheSendSync as keys
-use Rattle.rebalance_service.proofs.sweep_notes.SweepNotes.TheSendSync as notes
+use Rattle.rebalance_service.proofs.leaf_notes.LeafNotes.TheSendSync as notes
 use Rattle.worker_calls.proofs.SharedStore.SendLemmas.{pass_send, slot_send, store_sync}
 use Rattle.pass_merges.specs.PassLeavesContracts.own.PassLeaves as Leaves
 use Rattle.worker_calls.specs.PassRoomContracts.own.PassRoom as Room

@@ -1,5 +1,4 @@
 -- That threads may share a handle is known in one way alone, so it may be kept beside the handle.
-use Rattle.std.proofs.Common.{◌≡◌}
 use Rattle.std.proofs.Props.{props}
 use Rattle.std.specs.Coded.{Unit-prop}
 use mathlib.Core.Logic.{∥∥₁_elim}

@@ -44,6 +44,16 @@ impl NextLeaf {
         NextLeaf { leaf: 0 }
     }
 
+    /// The number of the leaf to which a turn is likely to come.
+    pub(crate) fn number(&self) -> u32 {
+        self.leaf
+    }
+
+    /// A turn has come to this leaf.
+    pub(crate) fn pass(&mut self, leaf: u32) {
+        self.leaf = leaf.saturating_add(1);
+    }
+
     /// The leaf that is likely to have a key: this one, or the one that a hint names, if its fence keys hold the key.
     /// None at the last leaf, with which a round ends. The first call looks at the first blocks of all leaves: a pass
     /// that hands out no hint of its own would else come to know one leaf a turn.
@@ -60,21 +70,25 @@ impl NextLeaf {
             Some(found) => found,
             None => leaf_with(store, hints.leaf_of(key), key)?,
         };
-        self.leaf = found.leaf.saturating_add(1);
+        self.pass(found.leaf);
         Some(found)
     }
 }
 
 /// A leaf, if the fence keys of its cells hold the key, and it isn't the last one.
 fn leaf_with(store: &Store, leaf: u32, key: Key) -> Option<LikelyLeaf> {
-    let cells = cells_of(leaf);
-    if key.is_below(key_in(store, cells.start, LOW)) {
-        return None;
-    }
-    let high = key_in(store, cells.end.saturating_sub(1), HIGH);
+    let (low, high) = fences_of(store, leaf);
     // At the last leaf a sweep frees retired leaves too, so it isn't passed over.
-    let holds = key.is_below(high) && high.is_below(Key::END);
+    let holds = !key.is_below(low) && key.is_below(high) && high.is_below(Key::END);
     holds.then_some(LikelyLeaf { leaf, high })
+}
+
+/// The fence keys of a leaf: the low one of its first cell, and the high one of its last.
+pub(crate) fn fences_of(store: &Store, leaf: u32) -> (Key, Key) {
+    let cells = cells_of(leaf);
+    let low = key_in(store, cells.start, LOW);
+    let high = key_in(store, cells.end.saturating_sub(1), HIGH);
+    (low, high)
 }
 
 /// The cells of a leaf.
@@ -96,7 +110,7 @@ pub(crate) fn beyond_full_leaf(
 }
 
 /// Whether these cells of a leaf have enough rows each, and too many in all for a merge.
-fn are_full(store: &Store, cells: Range<u32>) -> bool {
+pub(crate) fn are_full(store: &Store, cells: Range<u32>) -> bool {
     let mut rows: u64 = 0;
     'cells: for cell in cells {
         let count = word_in(store, cell, COUNT);

@@ -8,8 +8,9 @@ ghost use Rattle.worker_calls.specs.SharedStore.Passes.{account_of};
 ghost use Rattle.worker_calls.specs.Ready.{HasSeenLegal, IsReady};
 ghost use Rattle.rebalance_service.specs.Turns.{next_turn};
 
-use crate::idle::{NextLeaf, beyond_full_leaf};
-use crate::sweep_notes::{FreeLeaf, SweepNotes};
+use crate::idle::NextLeaf;
+use crate::leaf_notes::LeafNotes;
+use crate::pace::Pace;
 use graph_model::NoMemory;
 use pass_merges::{MergeKey, MergeTurn, merge_step};
 use std::alloc::Global;
@@ -39,6 +40,8 @@ pub struct ServiceKeys {
     pub sweep_leaf: NextLeaf,
     /// The same of merging.
     pub merge_leaf: NextLeaf,
+    /// How turns are spread over a run.
+    pub pace: Pace,
 }
 
 impl ServiceKeys {
@@ -50,17 +53,19 @@ impl ServiceKeys {
             merge: MergeKey::first(),
             sweep_leaf: NextLeaf::first(),
             merge_leaf: NextLeaf::first(),
+            pace: Pace::first(),
         }
     }
 }
 
-/// Takes a turn, and answers whether a cell has changed. Only a turn of merging takes memory.
+/// Takes a turn, and answers whether a cell has changed. May wait, also for the scripts to catch up. Only a turn of
+/// merging takes memory.
 pub(crate) fn serve(
     rt: &impl Wait,
     store: &Store,
     pass: &mut Pass,
     room: &mut Option<PassRoom>,
-    notes: &mut SweepNotes,
+    notes: &mut LeafNotes,
     keys: &mut ServiceKeys,
 ) -> Result<bool, NoMemory>
     requires ready { ∥ IsReady store.now pass.old ∥₁ }
@@ -69,6 +74,7 @@ pub(crate) fn serve(
     ensures reads { ReadsBy (account_of store.now pass.old) (account_of store.now pass.new) }
     ensures turn { keys.new.turn ≡ next_turn keys.old.turn }
 {
+    keys.pace.wait(rt, store);
     match keys.turn {
         WorkerTurn::Sweep => {
             // The turn is passed on first, so that neither step can hold up the other.
@@ -103,7 +109,7 @@ fn sweep(
     rt: &impl Wait,
     store: &Store,
     pass: &mut Pass,
-    notes: &mut SweepNotes,
+    notes: &mut LeafNotes,
     key: &mut SweepKey,
     next: &mut NextLeaf,
 ) -> bool
@@ -114,8 +120,8 @@ fn sweep(
 {
     // Before the sweep: a cell that changes while it goes on has another sum afterwards, and then the leaf isn't noted
     // as settled.
-    let looked = FreeLeaf::of_key(store, &mut pass.cells.hints, next, key.next);
-    if let Some(high) = notes.beyond(looked) {
+    let looked = notes.look(store, &mut pass.cells.hints, next, key.next);
+    if let Some(high) = notes.beyond_settled(looked) {
         key.next = high;
         return false;
     }
@@ -143,7 +149,7 @@ fn merge(
     store: &Store,
     pass: &mut Pass,
     room: &mut Option<PassRoom>,
-    notes: &mut SweepNotes,
+    notes: &mut LeafNotes,
     key: &mut MergeKey,
     next: &mut NextLeaf,
 ) -> Result<bool, NoMemory>
@@ -157,7 +163,7 @@ fn merge(
     // refused there are none, and each leaf is swept.
     let _ = notes.make_room(alloc, store.accounts.config.leaves);
     // A look at words with no latch. If it is wrong the leaf is looked at when the turn comes round again.
-    if let Some(high) = beyond_full_leaf(store, &mut pass.cells.hints, next, key.next) {
+    if let Some(high) = notes.beyond_full(store, &mut pass.cells.hints, next, key.next) {
         key.next = high;
         return Ok(false);
     }

@@ -9,9 +9,9 @@ ghost use Rattle.worker_calls.specs.SharedStore.Passes.{IsIdle};
 ghost use Rattle.worker_calls.specs.Ready.{IsReady};
 
 use crate::idle_passes::IdlePasses;
+use crate::leaf_notes::LeafNotes;
 use crate::readers::{Readers, SharedHandle};
 use crate::serve::ServiceKeys;
-use crate::sweep_notes::SweepNotes;
 use std::marker::{Brand, PhantomData};
 use std::sync::{Mutex, Wait};
 use std::thread::Threads;
@@ -47,8 +47,8 @@ pub struct Worker<'a, R: Wait + SharedHandle, H: Home> {
     pub(crate) pass: Pass,
     /// Made by the first call that moves rows.
     pub(crate) room: Option<PassRoom>,
-    /// Of leaves that a sweep may pass over.
-    pub(crate) notes: SweepNotes,
+    /// Of leaves that turns of the service may pass over.
+    pub(crate) notes: LeafNotes,
     /// Where its scan has come to.
     pub(crate) place: ScanPlace,
     /// How many turns of the service it has taken, up to the last number.
@@ -71,7 +71,7 @@ impl<'a, R: Wait, H: Home> Worker<'a, R, H> {
         ensures pass { result.pass ≡ pass }
         ensures served { result.served ≡ 0 }
     {
-        let notes = SweepNotes::none(pass.alloc);
+        let notes = LeafNotes::none(pass.alloc);
         Worker {
             rt,
             store,
