@@ -5,7 +5,7 @@
 
 Runs the program so often and prints a line for each run: the seconds of each line of its scripts that took three
 milliseconds or more, in the order of their ends. What it takes stands in `traces.py`. Reports and the journal of a run
-are removed before the next, and its tables are not: name them alike, or in a script that is run once.
+are removed before the next, and its tables are written over.
 """
 
 from traces import run_often
