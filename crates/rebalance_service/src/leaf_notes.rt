@@ -27,7 +27,7 @@ const MOVE: u32 = 2 * LEAF_SEGMENTS as u32;
 const SUMS: u64 = 4294967296;
 
 /// A leaf all of whose cells a look found free, with the sum of their latch words.
-#[derive(Clone, Copy, Debug, PartialEq, Eq)]
+#[derive(Clone, Copy)]
 pub(crate) struct FreeLeaf {
     /// The number of the leaf.
     leaf: u32,
@@ -38,7 +38,7 @@ pub(crate) struct FreeLeaf {
 }
 
 /// Two sums of the latch words of a leaf.
-#[derive(Clone, Copy, Debug, PartialEq, Eq)]
+#[derive(Clone, Copy)]
 struct LeafSums {
     /// When it was attended to.
     attended: u32,
@@ -62,7 +62,7 @@ impl LeafSums {
 }
 
 /// What is noted of a leaf.
-#[derive(Clone, Copy, Debug, PartialEq, Eq)]
+#[derive(Clone, Copy)]
 struct LeafNote {
     /// Between these keys its rows were.
     low: Key,

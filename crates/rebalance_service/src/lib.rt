@@ -5,8 +5,7 @@
 //! 2. Turns of the service change no view. A turn takes a leaf only where words that are loaded with no latch don't
 //!    tell that there is nothing to do with it: for a turn of merging that it is full, for a sweep that it had no
 //!    records when it was last swept and hasn't changed since, or is being changed, so that its commits see to it.
-//! 3. Turns of the service are spread over a run: one waits a while where they are far ahead of the commits.
-//! 4. A whole view is scanned by several readers at once, which are made of passes that the workers share.
+//! 3. A whole view is scanned by several readers at once, which are made of passes that the workers share.
 #![tactic(auto)]
 
 pub mod below;
@@ -14,7 +13,6 @@ mod engine;
 mod idle;
 mod idle_passes;
 mod leaf_notes;
-mod pace;
 mod parts;
 mod readers;
 mod serve;

@@ -10,7 +10,6 @@ ghost use Rattle.rebalance_service.specs.Turns.{next_turn};
 
 use crate::idle::NextLeaf;
 use crate::leaf_notes::LeafNotes;
-use crate::pace::Pace;
 use graph_model::NoMemory;
 use pass_merges::{MergeKey, MergeTurn, merge_step};
 use std::alloc::Global;
@@ -40,8 +39,6 @@ pub struct ServiceKeys {
     pub sweep_leaf: NextLeaf,
     /// The same of merging.
     pub merge_leaf: NextLeaf,
-    /// How turns are spread over a run.
-    pub pace: Pace,
 }
 
 impl ServiceKeys {
@@ -53,13 +50,11 @@ impl ServiceKeys {
             merge: MergeKey::first(),
             sweep_leaf: NextLeaf::first(),
             merge_leaf: NextLeaf::first(),
-            pace: Pace::first(),
         }
     }
 }
 
-/// Takes a turn, and answers whether a cell has changed. May wait, also for the scripts to catch up. Only a turn of
-/// merging takes memory.
+/// Takes a turn, and answers whether a cell has changed. May wait. Only a turn of merging takes memory.
 pub(crate) fn serve(
     rt: &impl Wait,
     store: &Store,
@@ -74,7 +69,6 @@ pub(crate) fn serve(
     ensures reads { ReadsBy (account_of store.now pass.old) (account_of store.now pass.new) }
     ensures turn { keys.new.turn ≡ next_turn keys.old.turn }
 {
-    keys.pace.wait(rt, store);
     match keys.turn {
         WorkerTurn::Sweep => {
             // The turn is passed on first, so that neither step can hold up the other.
