@@ -1,2 +1,3 @@
 pub mod FieldsLemmas
 pub mod NumberLemmas
+mod PiecesLemmas

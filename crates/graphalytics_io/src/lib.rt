@@ -23,7 +23,7 @@ pub use line_fields::Fields;
 pub use lines::{FieldLine, FieldLines, field_lines, fields, lines_have_fields};
 pub use load::{load_graph, writes_of};
 pub use number::{NumberFault, read_number};
-pub use pieces::{text_of_items, text_of_table};
+pub use pieces::{Pieces, pieces_of_items, text_of_items, text_of_table};
 pub use spelling::{Spelling, append_each, write_each};
 pub use table::write_table;
 pub use text::Text;

@@ -3,7 +3,7 @@
 //! 1. A text is bytes: what is written there is ASCII, and nobody asks for characters.
 //! 2. A number is written into room on the stack and copied, so it takes no memory of its own.
 
-ghost use Rattle.std.specs.Prelude.{◌≡◌, ◌==◌, ℕ, List, [], ◌++◌, length, take, decimal, OnOk, OnErr};
+ghost use Rattle.std.specs.Prelude.{◌≡◌, ◌==◌, ℕ, List, [], ◌++◌, length, take, decimal, IfOk, OnOk, OnErr};
 
 use items::{Items, NoMemory};
 use itoa::Buffer;
@@ -33,6 +33,15 @@ impl Text {
         Text {
             bytes: Vec::new(alloc),
         }
+    }
+
+    /// No bytes, with room for so many.
+    pub fn with_capacity(alloc: Global, bytes: usize) -> Result<Text, NoMemory>
+        ensures { IfOk result (λ text. text ≡ []) }
+    {
+        Ok(Text {
+            bytes: Vec::with_capacity(alloc, bytes)?,
+        })
     }
 
     /// The bytes of a vector. Takes no memory.

@@ -12,7 +12,7 @@ ghost use Rattle.graphalytics_io.specs.Appends.{Extends};
 
 use crate::pieces::{Field, write_counted, write_named};
 use graph_model::{Commit, Journal, NoMemory, Write};
-use graphalytics_io::{Spelling, Text, append_each, text_of_items, write_each};
+use graphalytics_io::{Pieces, Spelling, Text, append_each, pieces_of_items, write_each};
 use std::alloc::Global;
 use std::thread::Threads;
 
@@ -36,25 +36,29 @@ pub fn text_of_journal<R: Threads + Sync>(
     let [first, later @ ..] = journal.as_slice() else {
         return Ok(Text::new(alloc));
     };
-    let mut text = text_of_commit(rt, alloc, first)?;
-    let behind = text_of_items::<R, Commit, CommitLines>(rt, alloc, later)?;
-    text.push_bytes(behind.as_slice())?;
-    Ok(text)
+    let mut pieces = pieces_of_commit(rt, alloc, first)?;
+    pieces.append(pieces_of_items::<R, Commit, CommitLines>(rt, alloc, later)?)?;
+    pieces.joined(alloc)
 }
 
-/// The text of a commit whose writes several threads share.
-fn text_of_commit<R: Threads + Sync>(
+/// The text of a commit, in pieces: several threads share its writes.
+fn pieces_of_commit<R: Threads + Sync>(
     rt: &R,
     alloc: Global,
     commit: &Commit,
-) -> Result<Text, NoMemory>
-    ensures { IfOk result (λ text. text ≡ commit_text commit.now) }
+) -> Result<Pieces, NoMemory>
+    ensures { IfOk result (λ pieces. pieces ≡ commit_text commit.now) }
 {
-    let mut text = Text::new(alloc);
-    write_commit_line(commit, &mut text)?;
-    let writes = text_of_items::<R, Write, WriteLine>(rt, alloc, commit.writes.as_slice())?;
-    text.push_bytes(writes.as_slice())?;
-    Ok(text)
+    let mut line = Text::new(alloc);
+    write_commit_line(commit, &mut line)?;
+    let mut pieces = Pieces::new(alloc);
+    pieces.push(line)?;
+    pieces.append(pieces_of_items::<R, Write, WriteLine>(
+        rt,
+        alloc,
+        commit.writes.as_slice(),
+    )?)?;
+    Ok(pieces)
 }
 
 /// The line of a commit, and those of its writes.
