@@ -21,13 +21,14 @@ use Rattle.line_runner.specs.declared.phase.Phase.TheVariants.{Between, Open, Sk
 use Rattle.line_runner.specs.declared.kept.KeptImage.{KeptImage}
 use Rattle.line_runner.specs.declared.reading.LineReading.{LineReading}
 use Rattle.line_runner.specs.Kernels.{IsKeptImage}
+use Rattle.line_runner.specs.Scanning.{IsReading}
 use Rattle.line_runner.specs.Phases.{is_inside, is_open, sees_same, image_behind, IsPhase}
-use Rattle.line_runner.specs.Turns.{is_call, view_now, MayTakeNow, Calls, ReadsTimes, AnswersLive, TakesOn, WantsOn, AreByAccount, AreExact}
+use Rattle.line_runner.specs.Turns.{is_call, view_now, MayTakeNow, ReadsFurther, Calls, ReadsTimes, AnswersLive, TakesOn, WantsOn, AreByAccount, AreExact}
 use Rattle.line_runner.specs.Lines.{given_up}
 use Rattle.line_runner.proofs.ExactLemmas.{takes_here, wants_same}
 use Rattle.job_runner.specs.declared.turn.JobTurn.{JobTurn}
 use Rattle.job_runner.specs.declared.turn.JobTurn.TheVariants as turns
-use Rattle.job_runner.specs.Progress.{Progress, left_of, has_given_up, is_over, behind, gone, runs_kernel, ComesTo, EndsTurnOn, GivesUpOn, IsReady, IsReadyBy, IsRolledBack, TakesTurn, TookTurn, TakesTurnOn, TookTurnOn, AnswersInParts, TakesInParts, TakesTurnInParts}
+use Rattle.job_runner.specs.Progress.{Progress, left_of, has_given_up, is_over, behind, gone, runs_kernel, ComesTo, EndsTurnOn, GivesUpOn, IsReady, IsReadyBy, IsRolledBack, Replays, TakesTurn, TookTurn, TakesTurnOn, TookTurnOn, AnswersInParts, TakesInParts, TakesTurnInParts}
 
 -- ---- what is left of a script
 
@@ -102,6 +103,23 @@ may_take account job ready c rest is =
   where
     begins : (n : ℕ) (r : Command) → r ≡ commands.Begin → (m : ℕ) → next_txn n r ≤ m → m ≤ account.allowed → n < account.allowed
     begins n r e m le room = let one : n + 1 ≤ m = subst (λ x. next_txn n x ≤ m) e le in omega arith
+
+-- a turn on the image that is kept for the line at hand
+pub replayed_here : {S : Type 0} (e : Calls S) (old : S) (job next : Progress) → IsReadyBy (e.account old) job → Replays job next
+    → (c : Command) (rest : List Command) → left_of job ≡ c ∷ rest → TakesTurnOn e old job c next old
+replayed_here e old job next ready replays c rest there =
+    let view = view_now (e.account old) in
+    let reads : IsReading view c replays.reading = subst (λ r. IfSome r (IsReading view c)) replays.reads (ready.reads c rest there) in
+    let further : ReadsFurther view job.phase job.reading c replays.further =
+        subst (λ p. ReadsFurther view p job.reading c replays.further) (sym replays.is_open)
+        (subst (λ r. ReadsFurther view Open r c replays.further) (sym replays.reads) (replays.goes_on view c reads)) in
+    record {
+      turn = Scanning replays.further;
+      takes = (further, (zero, refl));
+      image = job.image;
+      kept = ready.kept;
+      job_is = replays.job_is;
+    }
 
 -- no image stays where none is kept
 pub none_behind : (phase : Phase) (given : LineAnswer) → image_behind phase given None ≡ None

@@ -112,6 +112,15 @@ pub record TakesTurnOn {S : Type 0} (e : Calls S) (old : S) (job : Progress) (c 
   pub kept : IfSome image (IsKeptImage (view_now (e.account old)))
   pub job_is : next ≡ behind job image turn
 
+-- the line at hand takes a turn on the image that is kept for it, and not its last one
+pub record Replays (job next : Progress) : Type 0 where
+  pub reading : LineReading
+  pub further : LineReading
+  pub reads : job.reading ≡ Some reading
+  pub is_open : job.phase ≡ Open
+  pub goes_on : (g : Graph) (c : Command) → IsReading g c reading → ReadsFurther g Open (Some reading) c further
+  pub job_is : next ≡ record job { reading = Some further }
+
 -- the transaction, if one is open, is taken back
 abbrev pub GivesUpOn : {S : Type 0} → (S → S → Type 0) → Phase → S → S → Type 0
 GivesUpOn aborts Between old new = new ≡ old

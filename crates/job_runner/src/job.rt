@@ -14,7 +14,7 @@ ghost use Rattle.line_runner.specs.Phases.{is_open};
 ghost use Rattle.line_runner.specs.Turns.{is_call, calls, WantsOn};
 ghost use Rattle.graph_model.specs.OwnerCalls.{account_here};
 ghost use Rattle.job_runner.specs.declared.turn.JobTurn.TheVariants as turns;
-ghost use Rattle.job_runner.specs.Progress.{new_progress, left_of, is_over, listed_table, gone, has_given_up, runs_kernel, EndsTurnOn, GivesUpOn, IsReady, IsReadyBy, IsRolledBack, TakesTurnInParts, TakesTurnOn, TookInParts, TookTurn, TookTurnOn};
+ghost use Rattle.job_runner.specs.Progress.{new_progress, left_of, is_over, listed_table, gone, has_given_up, runs_kernel, EndsTurnOn, GivesUpOn, IsReady, IsReadyBy, IsRolledBack, Replays, TakesTurnInParts, TakesTurnOn, TookInParts, TookTurn, TookTurnOn};
 
 use crate::turn::JobTurn;
 use graph_model::{Engine, NoMemory, StepEngine, VertexEngine};
@@ -224,12 +224,30 @@ impl Job {
             OnErr result (WantsOn e engine.old engine.new
             × (self.new ≡ record self.old { reading = None; image = None })) }
     {
-        // Most lines read no rows. Such a turn moves neither what was read nor an image, which are long.
+        // Most lines read no rows, and most turns of a kernel's line on an image that is kept only count. Such a turn
+        // moves neither what was read nor an image, which are long.
         if self.is_at_call() {
             self.answer_line(engine)
+        } else if self.replay_on() {
+            Ok(())
         } else {
             self.read_on(rt, engine)
         }
+    }
+
+    /// Takes a turn on the image that is kept for the line at hand, where it isn't its last one, and answers whether it
+    /// did.
+    fn replay_on(&mut self) -> bool
+        ensures replays { result ≡ true → Replays self.old self.new }
+        ensures same { result ≡ false → self.new ≡ self.old }
+    {
+        let Phase::Open = self.phase else {
+            return false;
+        };
+        let Some(reading) = &mut self.reading else {
+            return false;
+        };
+        reading.replay_on()
     }
 
     /// Whether the line at hand reads no rows, and nothing is kept that was read.

@@ -15,7 +15,7 @@ ghost use Rattle.leaf_rows.specs.Laying.{PrunesKeys, PrunesLeaf, SweepsCell};
 use crate::reader::Known;
 use crate::rows::LeafRows;
 use graph_model::Key;
-use leaf_store::Pruned;
+use leaf_store::{Finger, Pruned};
 use txn_manager::TxnManager;
 
 impl LeafRows {
@@ -29,9 +29,11 @@ impl LeafRows {
     {
         self.store.is_sound();
         let mut key = Key::of_vertex(0);
+        let mut near = self.store.find(key);
         'cells: while key.is_below(Key::end()) {
-            let pruned = self.sweep(key, manager, horizon);
+            let pruned = self.sweep(key, near, manager, horizon);
             key = pruned.high;
+            near = near.next_cell();
         }
     }
 
@@ -51,19 +53,26 @@ impl LeafRows {
         ensures limit { self.new.limit ≡ self.old.limit }
         ensures weight { weight self.new ≤ weight self.old }
     {
-        self.read_leaf_ahead(key);
-        self.sweep_cells(key, manager, horizon)
+        let near = self.read_leaf_ahead(key);
+        self.sweep_cells(key, near, manager, horizon)
     }
 
-    /// Reads ahead what a sweep of the leaf that has the key will read. Nothing that contracts see changes.
-    fn read_leaf_ahead(&mut self, key: Key)
+    /// Reads ahead what a sweep of the leaf that has the key will read, and answers where its first cell is. Nothing
+    /// that contracts see changes.
+    fn read_leaf_ahead(&mut self, key: Key) -> Finger
         ensures { self.new ≡ self.old }
     {
-        self.store.read_leaf_ahead(key);
+        self.store.read_leaf_ahead(key)
     }
 
     /// The sweep itself, of one cell after the other.
-    fn sweep_cells(&mut self, key: Key, manager: &TxnManager, horizon: u64) -> Pruned
+    fn sweep_cells(
+        &mut self,
+        key: Key,
+        first: Finger,
+        manager: &TxnManager,
+        horizon: u64,
+    ) -> Pruned
         requires within { is_below key end_key ≡ true }
         requires known { horizon ≤ length manager.now.journal }
         ensures prunes { PrunesLeaf (stamp_in manager.now.journal) horizon self.old self.new key result }
@@ -73,12 +82,14 @@ impl LeafRows {
         let range = self.store.leaf_range(key);
         let mut records: usize = 0;
         let mut next = range.low;
+        let mut near = first;
         'cells: while next.is_below(range.high) {
-            // It answers where the cell ends, by which the next one is found: no cell is named by a number that another
-            // one may have by then.
-            let pruned = self.sweep(next, manager, horizon);
+            // It answers where the cell ends, by which the next one is found: a number may be another cell's by then,
+            // so it says no more than where to look first.
+            let pruned = self.sweep(next, near, manager, horizon);
             records = records.saturating_add(pruned.records);
             next = pruned.high;
+            near = near.next_cell();
         }
         Pruned {
             records,
@@ -87,7 +98,7 @@ impl LeafRows {
     }
 
     /// Takes it away in the rows of a key's cell, and answers how many records went, and where the cell ends.
-    fn sweep(&mut self, key: Key, manager: &TxnManager, horizon: u64) -> Pruned
+    fn sweep(&mut self, key: Key, near: Finger, manager: &TxnManager, horizon: u64) -> Pruned
         requires within { is_below key end_key ≡ true }
         requires known { horizon ≤ length manager.now.journal }
         ensures prunes { PrunesKeys (stamp_in manager.now.journal) horizon self.old self.new key }
@@ -95,7 +106,9 @@ impl LeafRows {
         ensures fits { result.high.second < 2 ^ 64 }
     {
         self.store.is_sound();
-        let pruned = self.store.prune(key, horizon, &mut Known { manager });
+        let pruned = self
+            .store
+            .prune(key, near, horizon, &mut Known { manager });
         self.store.is_sound();
         pruned
     }

@@ -11,7 +11,7 @@ ghost use Rattle.leaf_table.specs.VersionSegment.Changes.{MayChange, changed, re
 ghost use Rattle.leaf_store.specs.Leaves.{cell_at, spare_at, versions_of};
 ghost use Rattle.leaf_store.specs.Changes.{ChangesVersions, KeepsCells, KeepsRecordRoom, PrunesCell, UsesRecords};
 
-use crate::place::{place_near, place_of};
+use crate::place::place_near;
 use crate::queue::queue_change;
 use crate::store::{LeafStore, Pruned};
 use graph_model::{Key, NoMemory, TxnName};
@@ -61,7 +61,13 @@ impl LeafStore {
     }
 
     /// Takes away what nobody can see from the horizon on. Where no record is left their memory is given back.
-    pub fn prune<S: States>(&mut self, key: Key, horizon: u64, states: &mut S) -> Pruned
+    pub fn prune<S: States>(
+        &mut self,
+        key: Key,
+        near: Finger,
+        horizon: u64,
+        states: &mut S,
+    ) -> Pruned
         requires within { is_below key end_key ≡ true }
         requires known { horizon ≤ (S.knowledge states.old).known }
         requires named { AreNamedRows (S.knowledge states.old).names (cell_at self.old key).rows }
@@ -69,7 +75,7 @@ impl LeafStore {
         ensures grows { Grows (S.knowledge states.old) (S.knowledge states.new) }
     {
         let alloc = self.alloc;
-        let place = place_of(&self.index, key);
+        let place = place_near(&self.index, key, near.cell);
         let (before, rows, pruned) = match &mut self.leaves[place.leaf] {
             Some(leaf) => {
                 let segment = &mut leaf.segments[place.segment];

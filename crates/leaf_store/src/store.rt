@@ -131,12 +131,13 @@ impl LeafStore {
         fingers_at(&self.leaves, keys, cells)
     }
 
-    /// Reads ahead the changed rows of the leaf that has the key, as for one.
-    pub fn read_leaf_ahead(&mut self, key: Key)
+    /// Reads ahead the changed rows of the leaf that has the key, as for one. Answers where its first cell is.
+    pub fn read_leaf_ahead(&mut self, key: Key) -> Finger
         ensures { self.new ≡ self.old }
     {
-        let leaf = self.index.leaf_at(key).leaf as usize;
-        self.ahead = sum_leaf_ahead(&self.leaves, leaf);
+        let leaf = self.index.leaf_at(key).leaf;
+        self.ahead = sum_leaf_ahead(&self.leaves, leaf as usize);
+        Finger::of_leaf(leaf)
     }
 
     /// The range of the leaf that has the key. No cell is partly in it.

@@ -26,4 +26,20 @@ impl Finger {
             row: NOWHERE,
         }
     }
+
+    /// Points to the first cell of a leaf.
+    pub fn of_leaf(leaf: u32) -> Finger {
+        Finger {
+            cell: leaf.wrapping_mul(8),
+            row: NOWHERE,
+        }
+    }
+
+    /// Points to the cell with the next number, in which the next keys are likely to be.
+    pub fn next_cell(self) -> Finger {
+        Finger {
+            cell: self.cell.wrapping_add(1),
+            row: NOWHERE,
+        }
+    }
 }

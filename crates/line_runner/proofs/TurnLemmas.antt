@@ -12,6 +12,7 @@ use Rattle.graph_model.specs.declared.row.Row.{Row}
 use Rattle.graph_model.specs.Account.{Account}
 use Rattle.graph_model.specs.AccountSteps.{ReadsBy}
 use Rattle.graph_model.specs.Graph.{Graph}
+use Rattle.graph_model.specs.Rows.{all_rows}
 use Rattle.graph_model.specs.Scans.{rows_left}
 use Rattle.run_model.specs.declared.answer.Answer.TheVariants as answers
 use Rattle.run_model.specs.declared.command.Command.{Command}
@@ -20,12 +21,13 @@ use Rattle.run_model.specs.declared.command.Query.TheVariants.{WeightOf, Neighbo
 use Rattle.run_model.specs.Commands.{open_behind}
 use Rattle.run_model.specs.Jobs.{scanned, skips}
 use Rattle.line_runner.specs.declared.answering.LineAnswer.{LineAnswer}
+use Rattle.line_runner.specs.declared.kept.KeptImage.{KeptImage}
 use Rattle.line_runner.specs.declared.phase.Phase.{Phase}
 use Rattle.line_runner.specs.declared.phase.Phase.TheVariants.{Between, Open, Skipping, GivenUp}
 use Rattle.line_runner.specs.declared.reading.LineReading.{LineReading}
 use Rattle.line_runner.specs.declared.reading.LineReading.TheVariants as readings
 use Rattle.line_runner.specs.declared.scan.Scan.{Scan}
-use Rattle.line_runner.specs.Scanning.{IsScan, IsWhole, ScansOn, rows_of_line, IsReading, taken_by, taken_of}
+use Rattle.line_runner.specs.Scanning.{IsScan, IsWhole, ScansOn, rows_of_line, IsReading, RunsKernel, taken_by, taken_of, too_many_turns}
 use Rattle.line_runner.specs.Phases.{is_skipping, is_inside, IsPhase, phase_behind, plain}
 use Rattle.line_runner.specs.Turns.{view_now, MayTakeNow, goes_on_at, ReadsFurther, Advances, Calls, ReadsTimes, ReadsOn, FinishesOn, WritesOn, WantsOn, AnswersLive, AnswersSkipped, AnswersOn}
 
@@ -137,6 +139,22 @@ pub reading_or : (g : Graph) (before : Option LineReading) (r : Command) (fresh 
     → IsReading g r (unwrap_or before fresh) × (taken_by (unwrap_or before fresh) ≡ taken_of before)
 reading_or g None r fresh is none reads = (reads, none)
 reading_or g (Some reading) r fresh is none reads = (is, refl)
+
+-- a turn on the image that is kept, where turns are left
+pub replays_further : (g : Graph) (kept : KeptImage) (turns : ℕ) → nat_lt turns (kept.rows / SCAN_ROWS) ≡ true → turns + 1 < too_many_turns
+    → (r : Command) → IsReading g r (readings.Replay kept turns) → ReadsFurther g Open (Some (readings.Replay kept turns)) r (readings.Replay kept (turns + 1))
+replays_further g kept turns left few r is = by_line r is.1
+  where
+    more : nat_lt (turns + 1) (length (all_rows g) / SCAN_ROWS + 1) ≡ true
+    more = let counted = is.0.counted in grind (arith, nat_tests)
+
+    by_line : (r : Command) → RunsKernel r → ReadsFurther g Open (Some (readings.Replay kept turns)) r (readings.Replay kept (turns + 1))
+    by_line commands.Begin never = absurd never
+    by_line commands.Commit never = absurd never
+    by_line commands.Abort never = absurd never
+    by_line (commands.Write w) never = absurd never
+    by_line (commands.Read query) never = absurd never
+    by_line (commands.Run kernel file) runs = record { is_open = refl; more = more; taken = refl; small = few; reads = (is.0, runs) }
 
 module _ (g : Graph) (before : Option LineReading) (r : Command) (s next : Scan) (is : IsScan g r s) (taken : taken_by (readings.Scan s) ≡ taken_of before) (on : ScansOn g r s next) where
   -- rows are left

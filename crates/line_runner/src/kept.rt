@@ -2,17 +2,18 @@
 //!
 //! 1. It is kept for as long as the transaction is open and writes nothing, so it is what a new scan would give.
 
-ghost use Rattle.std.specs.Prelude.{◌≡◌, ◌-◌, ◌^◌, min, length, IfOk};
+ghost use Rattle.std.specs.Prelude.{◌≡◌, ◌+◌, ◌-◌, ◌/◌, ◌<◌, ◌^◌, min, length, nat_lt, true, IfOk};
+ghost use Rattle.graph_model.specs.declared.limits.TheConstants.{SCAN_ROWS};
 ghost use Rattle.graph_model.specs.declared.write.Kind.TheVariants.{Undirected};
 ghost use Rattle.graph_model.specs.Graph.{Graph, IsBounded, IsSymmetric};
 ghost use Rattle.graph_model.specs.Rows.{AreRowsOf};
 ghost use Rattle.part_scan.specs.Parts.{rows_in};
 ghost use Rattle.line_runner.specs.Kernels.{IsKeptImage};
-ghost use Rattle.line_runner.specs.Scanning.{HasAllRows};
+ghost use Rattle.line_runner.specs.Scanning.{HasAllRows, too_many_turns};
 
 use crate::scan::Scan;
 use graph_image::{Image, PartBuilder};
-use graph_model::{Kind, NoMemory};
+use graph_model::{Kind, NoMemory, SCAN_ROWS};
 use part_scan::{RowList, RowLists};
 use std::alloc::Global;
 use std::thread::Threads;
@@ -54,6 +55,15 @@ impl KeptImage {
         }
         let image = PartBuilder::of_lists(alloc, lists).finish(rt, kind)?;
         Ok(KeptImage { image, rows })
+    }
+
+    /// Whether a line that has taken so many turns on it takes more than one yet. It takes as many as the scan of these
+    /// rows took: what other scripts do meanwhile must not depend on whether an image was kept.
+    pub(crate) fn has_turns_left(&self, turns: u64) -> bool
+        ensures left { result ≡ nat_lt turns (self.now.rows / SCAN_ROWS) }
+        ensures few { result ≡ true → turns + 1 < too_many_turns }
+    {
+        turns < self.rows / SCAN_ROWS as u64
     }
 }
 

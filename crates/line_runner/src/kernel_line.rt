@@ -23,7 +23,7 @@ use crate::reading::LineReading;
 use crate::scan::Scan;
 use crate::table::{NamedTable, copy_of, kernel_table};
 use graph_image::Image;
-use graph_model::{Engine, KernelRefusal, Kind, NoMemory, SCAN_ROWS};
+use graph_model::{Engine, KernelRefusal, Kind, NoMemory};
 use part_scan::PartScan;
 use run_model::{Answer, Kernel, Name};
 use std::alloc::Global;
@@ -125,9 +125,7 @@ fn replay(kept: KeptImage, turns: u64) -> ImageTurn
         → taken_of before ≡ turns → IsKeptImage g kept
         → ReadsImage g before (commands.Run kernel file) result }
 {
-    // As many turns as the scan of these rows took: what other scripts do meanwhile must not depend on whether an
-    // image was kept.
-    if turns < kept.rows / SCAN_ROWS as u64 {
+    if kept.has_turns_left(turns) {
         let reading = LineReading::Replay {
             kept,
             turns: turns + 1,

@@ -3,13 +3,16 @@
 //! 1. A line takes the turns of a scan, whether it scans or not, so that other scripts get theirs between.
 //! 2. Only a kernel's line runs on an image, so only such a line counts its turns.
 
-ghost use Rattle.std.specs.Prelude.{◌≡◌, ℕ, List, IfSome};
+ghost use Rattle.std.specs.Prelude.{◌≡◌, ℕ, List, Some, IfSome, true, false};
 ghost use Rattle.graph_model.specs.Graph.{Graph};
+ghost use Rattle.run_model.specs.declared.command.Command.{Command};
 ghost use Rattle.run_model.specs.declared.command.Command.TheVariants as commands;
 ghost use Rattle.run_model.specs.declared.command.Query.{Query};
 ghost use Rattle.run_model.specs.declared.command.Kernel.{Kernel};
+ghost use Rattle.line_runner.specs.declared.phase.Phase.TheVariants.{Open};
 ghost use Rattle.line_runner.specs.Kernels.{IsKeptImage};
 ghost use Rattle.line_runner.specs.Scanning.{IsReading, taken_by};
+ghost use Rattle.line_runner.specs.Turns.{ReadsFurther};
 
 use crate::kept::KeptImage;
 use crate::scan::Scan;
@@ -36,6 +39,22 @@ impl LineReading {
             None => LineReading::Scan {
                 scan: Scan::of_rows(alloc),
             },
+        }
+    }
+
+    /// Takes a turn on the image that is kept, where it isn't the line's last one, and answers whether it did. The image
+    /// stays where it is: nearly all turns on a large one are such.
+    pub fn replay_on(&mut self) -> bool
+        ensures further { result ≡ true → (g : Graph) (r : Command) → IsReading g r self.old
+            → ReadsFurther g Open (Some self.old) r self.new }
+        ensures same { result ≡ false → self.new ≡ self.old }
+    {
+        match self {
+            LineReading::Replay { kept, turns } if kept.has_turns_left(*turns) => {
+                *turns += 1;
+                true
+            }
+            _ => false,
         }
     }
 
