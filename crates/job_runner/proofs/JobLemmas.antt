@@ -111,8 +111,8 @@ replayed_here e old job next ready replays c rest there =
     let view = view_now (e.account old) in
     let reads : IsReading view c replays.reading = subst (λ r. IfSome r (IsReading view c)) replays.reads (ready.reads c rest there) in
     let further : ReadsFurther view job.phase job.reading c replays.further =
-        subst (λ p. ReadsFurther view p job.reading c replays.further) (sym replays.is_open)
-        (subst (λ r. ReadsFurther view Open r c replays.further) (sym replays.reads) (replays.goes_on view c reads)) in
+    subst (λ p. ReadsFurther view p job.reading c replays.further) (sym replays.is_open)
+    (subst (λ r. ReadsFurther view Open r c replays.further) (sym replays.reads) (replays.goes_on view c reads)) in
     record {
       turn = Scanning replays.further;
       takes = (further, (zero, refl));

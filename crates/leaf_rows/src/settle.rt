@@ -66,13 +66,7 @@ impl LeafRows {
     }
 
     /// The sweep itself, of one cell after the other.
-    fn sweep_cells(
-        &mut self,
-        key: Key,
-        first: Finger,
-        manager: &TxnManager,
-        horizon: u64,
-    ) -> Pruned
+    fn sweep_cells(&mut self, key: Key, first: Finger, manager: &TxnManager, horizon: u64) -> Pruned
         requires within { is_below key end_key ≡ true }
         requires known { horizon ≤ length manager.now.journal }
         ensures prunes { PrunesLeaf (stamp_in manager.now.journal) horizon self.old self.new key result }
@@ -106,9 +100,7 @@ impl LeafRows {
         ensures fits { result.high.second < 2 ^ 64 }
     {
         self.store.is_sound();
-        let pruned = self
-            .store
-            .prune(key, near, horizon, &mut Known { manager });
+        let pruned = self.store.prune(key, near, horizon, &mut Known { manager });
         self.store.is_sound();
         pruned
     }

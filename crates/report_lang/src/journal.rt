@@ -53,11 +53,7 @@ fn pieces_of_commit<R: Threads + Sync>(
     write_commit_line(commit, &mut line)?;
     let mut pieces = Pieces::new(alloc);
     pieces.push(line)?;
-    pieces.append(pieces_of_items::<R, Write, WriteLine>(
-        rt,
-        alloc,
-        commit.writes.as_slice(),
-    )?)?;
+    pieces.append(pieces_of_items::<R, Write, WriteLine>(rt, alloc, commit.writes.as_slice())?)?;
     Ok(pieces)
 }
 
