@@ -17,7 +17,7 @@ use Rattle.leaf_store.specs.declared.store.Pruned.{Pruned}
 use Rattle.leaf_store.specs.Leaves.{Leaves, AreLeaves, CellsAreApart, cells_of, cell_at, shares, versions_of, contents_of, weight}
 use Rattle.leaf_store.specs.Changes.{PrunesCell}
 use Rattle.leaf_rows.specs.Readers.{HaveNoStamp, AreUnstamped}
-use Rattle.leaf_rows.specs.Laying.{PrunesKeys}
+use Rattle.leaf_rows.specs.Laying.{PrunesKeys, PrunesRange}
 use Rattle.leaf_rows.proofs.CellLemmas.{cell_sound}
 use Rattle.leaf_rows.proofs.KnownLemmas.{unstamped_row}
 use Rattle.leaf_rows.proofs.ScanLemmas.{none_beyond}
@@ -146,24 +146,25 @@ pruned_none stamps horizon old = record { done = λ q e. absurd (first_least q e
     first_least : (q : Key) → is_below q first_key ≡ true → ⊥
     first_least q e = grind (arith, nat_tests)
 
-pub pruned_more : (stamps : TxnName → Option ℕ) (horizon : ℕ) (old now next : Leaves) (key high : Key) → HasPruned stamps horizon old now key → PrunesKeys stamps horizon now next key
-    → high ≡ (cell_at now key).high → shares now key key ≡ true → HasPruned stamps horizon old next high
-pruned_more stamps horizon old now next key high has prunes is holds = record {
-  done = λ q e. done q (shares now key q) refl (rw is at e);
-  each = λ q. each q (shares now key q) refl;
+-- a range more, in which the key is
+pub pruned_more : (stamps : TxnName → Option ℕ) (horizon : ℕ) (old now next : Leaves) (key low high : Key) → HasPruned stamps horizon old now key → PrunesRange stamps horizon low high now next
+    → is_between low high key ≡ true → HasPruned stamps horizon old next high
+pruned_more stamps horizon old now next key low high has prunes holds = record {
+  done = λ q e. done q (is_between low high q) refl e;
+  each = λ q. each q (is_between low high q) refl;
 }
   where
-    inside : (q : Key) → shares now key q ≡ true → contents_of next q ≡ prune stamps horizon (contents_of old q)
+    inside : (q : Key) → is_between low high q ≡ true → contents_of next q ≡ prune stamps horizon (contents_of old q)
     inside q e = prunes.pruned q e ∙ prune_once stamps horizon (contents_of now q) (contents_of old q) (has.each q)
 
-    outside : (low top q : Key) → is_between low top key ≡ true → is_below q top ≡ true → is_between low top q ≡ false → is_below q key ≡ true
-    outside low top q a b c = grind (arith, nat_tests)
+    outside : (q : Key) → is_below q high ≡ true → is_between low high q ≡ false → is_below q key ≡ true
+    outside q b c = grind (arith, nat_tests, holds)
 
-    done : (q : Key) (t : Bool) → shares now key q ≡ t → is_below q (cell_at now key).high ≡ true → contents_of next q ≡ prune stamps horizon (contents_of old q)
+    done : (q : Key) (t : Bool) → is_between low high q ≡ t → is_below q high ≡ true → contents_of next q ≡ prune stamps horizon (contents_of old q)
     done q true e below = inside q e
-    done q false e below = prunes.others q e ∙ has.done q (outside (cell_at now key).low (cell_at now key).high q holds below e)
+    done q false e below = prunes.others q e ∙ has.done q (outside q below e)
 
-    each : (q : Key) (t : Bool) → shares now key q ≡ t → (contents_of next q ≡ contents_of old q) ⊎ (contents_of next q ≡ prune stamps horizon (contents_of old q))
+    each : (q : Key) (t : Bool) → is_between low high q ≡ t → (contents_of next q ≡ contents_of old q) ⊎ (contents_of next q ≡ prune stamps horizon (contents_of old q))
     each q true e = inr (inside q e)
     each q false e = or_pruned_still stamps horizon (contents_of next q) (contents_of now q) (contents_of old q) (prunes.others q e) (has.each q)
 

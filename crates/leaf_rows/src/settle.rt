@@ -1,4 +1,4 @@
-//! What nobody can see any more is taken away, cell by cell: in all rows, or in those of a leaf.
+//! What nobody can see any more is taken away, leaf by leaf and cell by cell.
 //!
 //! 1. It changes the view of no open transaction and takes no memory, so it may be done between any two calls.
 
@@ -29,11 +29,9 @@ impl LeafRows {
     {
         self.store.is_sound();
         let mut key = Key::of_vertex(0);
-        let mut near = self.store.find(key);
-        'cells: while key.is_below(Key::end()) {
-            let pruned = self.sweep(key, near, manager, horizon);
+        'leaves: while key.is_below(Key::end()) {
+            let pruned = self.sweep_leaf(key, manager, horizon);
             key = pruned.high;
-            near = near.next_cell();
         }
     }
 
@@ -50,6 +48,7 @@ impl LeafRows {
         requires within { is_below key end_key ≡ true }
         requires known { horizon ≤ length manager.now.journal }
         ensures prunes { PrunesLeaf (stamp_in manager.now.journal) horizon self.old self.new key result }
+        ensures fits { result.high.second < 2 ^ 64 }
         ensures limit { self.new.limit ≡ self.old.limit }
         ensures weight { weight self.new ≤ weight self.old }
     {
@@ -70,6 +69,7 @@ impl LeafRows {
         requires within { is_below key end_key ≡ true }
         requires known { horizon ≤ length manager.now.journal }
         ensures prunes { PrunesLeaf (stamp_in manager.now.journal) horizon self.old self.new key result }
+        ensures fits { result.high.second < 2 ^ 64 }
         ensures limit { self.new.limit ≡ self.old.limit }
         ensures weight { weight self.new ≤ weight self.old }
     {
