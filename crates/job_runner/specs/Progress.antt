@@ -21,7 +21,7 @@ use Rattle.line_runner.specs.declared.table.NamedTable.{NamedTable}
 use Rattle.job_runner.specs.declared.turn.JobTurn.{JobTurn}
 use Rattle.job_runner.specs.declared.turn.JobTurn.TheVariants as turns
 use Rattle.line_runner.specs.Kernels.{IsKeptImage}
-use Rattle.line_runner.specs.Scanning.{too_many_turns, IsReading, taken_of}
+use Rattle.line_runner.specs.Scanning.{too_many_turns, IsReading, replays_on as on_image, taken_of}
 use Rattle.line_runner.specs.Phases.{is_skipping, is_inside, IsPhase, image_behind}
 use Rattle.line_runner.specs.Turns.{view_now, goes_on_at, ReadsFurther, ReadsOn, Calls, AnswersLine, TakesOn, WantsOn}
 use Rattle.line_runner.specs.Lines.{view_here, TakesHere, given_up}
@@ -111,6 +111,14 @@ pub record TakesTurnOn {S : Type 0} (e : Calls S) (old : S) (job : Progress) (c 
   pub image : Option KeptImage
   pub kept : IfSome image (IsKeptImage (view_now (e.account old)))
   pub job_is : next ≡ behind job image turn
+
+-- turns of the line at hand are left on the image that is kept for it, beside the last one
+abbrev pub replays_on : Phase → Option LineReading → Bool
+replays_on Between reading = false
+replays_on Open None = false
+replays_on Open (Some reading) = on_image reading
+replays_on Skipping reading = false
+replays_on GivenUp reading = false
 
 -- the line at hand takes a turn on the image that is kept for it, and not its last one
 pub record Replays (job next : Progress) : Type 0 where

@@ -14,7 +14,7 @@ ghost use Rattle.line_runner.specs.Phases.{is_open};
 ghost use Rattle.line_runner.specs.Turns.{is_call, calls, WantsOn};
 ghost use Rattle.graph_model.specs.OwnerCalls.{account_here};
 ghost use Rattle.job_runner.specs.declared.turn.JobTurn.TheVariants as turns;
-ghost use Rattle.job_runner.specs.Progress.{new_progress, left_of, is_over, listed_table, gone, has_given_up, runs_kernel, EndsTurnOn, GivesUpOn, IsReady, IsReadyBy, IsRolledBack, Replays, TakesTurnInParts, TakesTurnOn, TookInParts, TookTurn, TookTurnOn};
+ghost use Rattle.job_runner.specs.Progress.{new_progress, left_of, is_over, listed_table, gone, has_given_up, replays_on, runs_kernel, EndsTurnOn, GivesUpOn, IsReady, IsReadyBy, IsRolledBack, Replays, TakesTurnInParts, TakesTurnOn, TookInParts, TookTurn, TookTurnOn};
 
 use crate::turn::JobTurn;
 use graph_model::{Engine, NoMemory, StepEngine, VertexEngine};
@@ -238,6 +238,7 @@ impl Job {
     /// Takes a turn on the image that is kept for the line at hand, where it isn't its last one, and answers whether it
     /// did.
     fn replay_on(&mut self) -> bool
+        ensures left { result ≡ replays_on self.old.phase self.old.reading }
         ensures replays { result ≡ true → Replays self.old self.new }
         ensures same { result ≡ false → self.new ≡ self.old }
     {

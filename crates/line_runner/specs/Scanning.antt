@@ -1,5 +1,5 @@
 -- Scans under way: the rows that a line has scanned, and what is kept of them.
-use Rattle.std.specs.Prelude.{◌≡◌, ℕ, ◌+◌, ◌-◌, ◌*◌, ◌/◌, ◌^◌, ◌<◌, ◌≤◌, ◌==◌, Bool, true, false, List, [], ◌++◌, length, map, count_by, Option, Some, None}
+use Rattle.std.specs.Prelude.{◌≡◌, ℕ, ◌+◌, ◌-◌, ◌*◌, ◌/◌, ◌^◌, ◌<◌, ◌≤◌, ◌==◌, Bool, true, false, nat_lt, List, [], ◌++◌, length, map, count_by, Option, Some, None}
 use Rattle.graph_model.specs.declared.limits.TheConstants.{SCAN_ROWS}
 use Rattle.graph_model.specs.declared.row.Key.{Key}
 use Rattle.graph_model.specs.declared.row.Row.{Row}
@@ -144,6 +144,11 @@ RunsKernel (commands.Run kernel file) = Unit {0}
 abbrev pub IsReading : Graph → Command → LineReading → Type 0
 IsReading g r (readings.Scan scan) = IsScan g r scan
 IsReading g r (readings.Replay kept turns) = IsKeptImage g kept × RunsKernel r
+
+-- turns on the image that is kept are left, beside the last one
+abbrev pub replays_on : LineReading → Bool
+replays_on (readings.Scan scan) = false
+replays_on (readings.Replay kept turns) = nat_lt turns (kept.rows / SCAN_ROWS)
 
 -- the turns that a line has taken: each turn of a scan gave a full portion, and those of a replay are counted
 abbrev pub taken_by : LineReading → ℕ

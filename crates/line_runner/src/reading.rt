@@ -11,7 +11,7 @@ ghost use Rattle.run_model.specs.declared.command.Query.{Query};
 ghost use Rattle.run_model.specs.declared.command.Kernel.{Kernel};
 ghost use Rattle.line_runner.specs.declared.phase.Phase.TheVariants.{Open};
 ghost use Rattle.line_runner.specs.Kernels.{IsKeptImage};
-ghost use Rattle.line_runner.specs.Scanning.{IsReading, taken_by};
+ghost use Rattle.line_runner.specs.Scanning.{IsReading, replays_on, taken_by};
 ghost use Rattle.line_runner.specs.Turns.{ReadsFurther};
 
 use crate::kept::KeptImage;
@@ -45,6 +45,7 @@ impl LineReading {
     /// Takes a turn on the image that is kept, where it isn't the line's last one, and answers whether it did. The image
     /// stays where it is: nearly all turns on a large one are such.
     pub fn replay_on(&mut self) -> bool
+        ensures replays { result ≡ replays_on self.old }
         ensures further { result ≡ true → (g : Graph) (r : Command) → IsReading g r self.old
             → ReadsFurther g Open (Some self.old) r self.new }
         ensures same { result ≡ false → self.new ≡ self.old }

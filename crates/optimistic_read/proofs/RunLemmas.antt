@@ -7,9 +7,11 @@ use Rattle.std.specs.declared.cmp.Ordering.TheVariants.{Equal}
 use Rattle.std.specs.FinMap.Entries.{below_all, find, find-where_key, is_sorted, is_sorted-where_key, where_key}
 use Rattle.std.proofs.lemmas.Bool.Decides.{nat_tests}
 use Rattle.atomic_table.specs.declared.shared.Seat.{Seat}
+use Rattle.graph_model.specs.declared.journal.Commit.{Commit}
 use Rattle.graph_model.specs.declared.journal.TxnName.{TxnName}
 use Rattle.graph_model.specs.declared.row.Key.{Key}
 use Rattle.graph_model.specs.declared.row.Row.{Row}
+use Rattle.graph_model.specs.declared.write.Write.{Write}
 use Rattle.graph_model.specs.Graph.{Graph}
 use Rattle.graph_model.specs.History.{view}
 use Rattle.graph_model.specs.Rows.{is_below, is_between, key_cmp, row_of, rows, value_at}
@@ -25,14 +27,13 @@ use Rattle.pass_steps.proofs.VersionSegment.KeyedLemmas.{tied_same}
 use Rattle.pass_steps.specs.VersionSegment.Resting.{is_marked, newest_in, value_word, word_of, word_row, word_rows}
 use Rattle.pass_steps.specs.VersionSegment.Rows.{IsSegment, VersionedRows, is_empty, is_nothing, or_nothing, range_of, versions_at}
 use Rattle.pass_steps.specs.StoreRelationDeclared.stage.Stage.TheVariants.{Open}
-use Rattle.pass_steps.specs.StoreRelation.Passes.{EndedTxn, PassState, fresh_pass, name_at}
+use Rattle.pass_steps.specs.StoreRelation.Passes.{PassState, name_at}
 use Rattle.pass_steps.specs.StoreRelation.Readers.{ReaderState}
 use Rattle.pass_steps.specs.CellsModel.BlockLaws.{row_key}
 use Rattle.pass_steps.specs.CellsModel.Indexed.{covers}
 use Rattle.pass_steps.specs.CellsModel.Reads.{first_loaded}
 use Rattle.pass_steps.specs.CellsModel.Words.{HasSmallValues, Spells}
 use Rattle.pass_steps.proofs.CellsModel.WordLemmas.{words_rise}
-use Rattle.pass_steps.specs.RuleModel.BlockSteps.{GiveView}
 use Rattle.pass_steps.specs.RuleModel.Sight.{HasPass, Sight, with_found}
 use Rattle.pass_steps.specs.StoreWords.Reads.{PassIsTold, ReaderIsTold, read_ended}
 use Rattle.pass_steps.specs.StoreWords.Steps.{Knows}
@@ -43,7 +44,7 @@ use Rattle.optimistic_read.specs.declared.decode.Stop.TheVariants.{Ended, Full, 
 use Rattle.optimistic_read.specs.declared.tried.TriedRun.{TriedRun}
 use Rattle.optimistic_read.specs.declared.tried.TriedRun.TheVariants.{Rows, Busy, Chained, Moved}
 use Rattle.optimistic_read.specs.Reads.{IsHead, IsReadingOn, IsSearched, StillReads, row_read}
-use Rattle.optimistic_read.specs.Runs.{EndsRun, IsRun, IsRunLoaded, IsRunRead, IsRunUpTo, IsTriedRun, decoded_rows, decoded_run, front_in, front_of, lesser, looked_at, read_up_to, room_behind, run_of, stop_in, stop_of}
+use Rattle.optimistic_read.specs.Runs.{EndsRun, IsRun, IsRunLoaded, IsRunRead, IsRunUpTo, IsReaderRun, IsTriedRun, IsTriedRunBy, decoded_rows, decoded_run, front_in, front_of, lesser, looked_at, read_up_to, room_behind, run_of, stop_in, stop_of}
 use Rattle.optimistic_read.specs.Tried.{is_chained}
 use Rattle.optimistic_read.proofs.LoadLemmas.{WithRow, row_known, weaken}
 use Rattle.optimistic_read.proofs.TryLemmas.{found_both, pass_there, readers_there}
@@ -732,12 +733,13 @@ run_ends_there low high from until holds ahead = go (is_below high until) refl
     go true e = record { ahead = (between_parts low high from holds).1; inside = below_flip high until e }
     go false e = record { ahead = ahead; inside = below_self until }
 
-module _ (z : Config) (p : ℕ) (st : PassState) (old new : Sight) (cell : ℕ) (from until : Key) (before after : List Row)
+module _ (z : Config) (seen : List Commit) (start : ℕ) (own : List Write) (by : TxnName) (old new : Sight) (cell : ℕ)
+    (from until : Key) (before after : List Row)
   where
     abbrev seen_graph : Graph
-    seen_graph = view z.kind st.seen st.start st.own
+    seen_graph = view z.kind seen start own
 
-    module _ (ahead : is_below from until ≡ true) (t : TriedRun) (r : IsRunRead z p st old new cell from until before after t)
+    module _ (ahead : is_below from until ≡ true) (t : TriedRun) (r : IsRunRead z seen start own by old new cell from until before after t)
       where
         abbrev room : ℕ
         room = room_behind before
@@ -751,7 +753,7 @@ module _ (z : Config) (p : ℕ) (st : PassState) (old new : Sight) (cell : ℕ) 
         graph_rows : (key : Key) → covers r.contents from ≡ true → chained_in (range_of from key r.contents.rows) ≡ None
             → run_of from key (word_rows r.contents) ≡ rows seen_graph from (lesser r.contents.high key)
         graph_rows key holds none =
-            run_of_graph _ st.start (name_at p st) seen_graph r.contents r.sound from key holds none r.gives
+            run_of_graph _ start by seen_graph r.contents r.sound from key holds none r.gives
 
         -- a key of a row of the cell is before its high fence key
         high_beyond : (key : Key) → IsCut from until r.contents.rows front key → lesser r.contents.high key ≡ key
@@ -815,7 +817,7 @@ module _ (z : Config) (p : ℕ) (st : PassState) (old new : Sight) (cell : ℕ) 
             by_test false holds = r.rows_are ∙ ap (λ b. before ++ cond b front []) holds ∙ with_none before
 
     pub run_is : is_below from until ≡ true → (t : TriedRun)
-        → IsTriedRun z p st old new cell from until before after t → IsRun t seen_graph from until before after
+        → IsTriedRunBy z seen start own by old new cell from until before after t → IsRun t seen_graph from until before after
     run_is ahead (Rows end) r = run_by ahead (Rows end) r
     run_is ahead (Busy c m n) r = tt
     run_is ahead (Chained k end) r = run_by ahead (Chained k end) r
@@ -829,8 +831,8 @@ module _ (z : Config) (p : ℕ) (st : PassState) (old new : Sight) (cell : ℕ) 
     never_busy true (Marked key) end low high k m n e = cc
     never_busy false stop end low high k m n e = cc
 
-    tried_of : (t : TriedRun) → IsRunRead z p st old new cell from until before after t
-        → IsTriedRun z p st old new cell from until before after t
+    tried_of : (t : TriedRun) → IsRunRead z seen start own by old new cell from until before after t
+        → IsTriedRunBy z seen start own by old new cell from until before after t
     tried_of (Rows end) r = r
     tried_of (Chained k end) r = r
     tried_of (Moved low high) r = r
@@ -852,7 +854,7 @@ run_answered z cell first second from until s0 s1 s2 s3 l before after t p st be
     let there = pass_there cell first second s0 s1 s2 s3 begun still ended p st has in
     let valid = told p st x.reading there stage x.is (same ∙ sym x.first_is) in
     let loaded = x.fact valid.block valid.segment valid.loaded valid.spells in
-    tried_of z p st s0.me.0 s3.me.0 cell from until before after t (record {
+    tried_of z st.seen st.start st.own (name_at p st) s0.me.0 s3.me.0 cell from until before after t (record {
       again = record {
         word = first;
         even = even;
@@ -869,38 +871,21 @@ run_answered z cell first second from until s0 s1 s2 s3 l before after t p st be
 
 -- ---- by a reader
 
--- so many transactions have ended
-abbrev ended_txns : ℕ → List EndedTxn
-ended_txns zero = []
-ended_txns (suc n) = record { writes = []; stamp = None } ∷ ended_txns n
-
--- a pass that has the transaction which a reader reads
-abbrev pass_of : ReaderState → PassState
-pass_of x = record fresh_pass { start = x.start; own = x.own; seen = x.seen; past = ended_txns x.by.number }
-
-ended_count : (n : ℕ) → length (map (λ (t : EndedTxn). t.writes) (ended_txns n)) ≡ n
-ended_count zero = refl
-ended_count (suc n) = ap (λ m. suc m) (ended_count n)
-
-name_is : (x : ReaderState) → name_at x.by.job (pass_of x) ≡ x.by
-name_is x i = record { job = x.by.job; number = ended_count x.by.number i }
-
 pub reader_answered : (z : Config) (cell first second : ℕ) (from until : Key) (s0 s1 s2 s3 : Seat (Unit {0}) Sight)
-    (l : LoadedRun) (before after : List Row) (t : TriedRun) (x : ReaderState) → is_below from until ≡ true
+    (l : LoadedRun) (before after : List Row) (t : TriedRun) (x : ReaderState)
     → Knows s0 s1 (with_found s0.me.0 (first_loaded cell first) cell first) → StillReads s1 s2
     → Knows s2 s3 (read_ended s2.me.0 second)
     → IsReadingOn cell first s2.me.0 (IsRunLoaded l from until before after)
     → ReaderIsTold z s2.me.0 second → first % 2 ≡ 0 → second ≡ first
     → ((block : List ℕ) (s : VersionedRows) (before after : List Row) → Spells block s
     → IsRunLoaded l from until before after s → t ≡ decoded_run s from until (room_behind before))
-    → s0.me.0.readers ≡ x ∷ [] → IsRun t (view z.kind x.seen x.start x.own) from until before after
-reader_answered z cell first second from until s0 s1 s2 s3 l before after t x ahead begun still ended on told even same
+    → s0.me.0.readers ≡ x ∷ [] → IsReaderRun z x s0.me.0 s3.me.0 cell from until before after t
+reader_answered z cell first second from until s0 s1 s2 s3 l before after t x begun still ended on told even same
     decodes has =
     let there = readers_there cell first second s0 s1 s2 s3 begun still ended ∙ has in
     let valid = told x on.reading there on.is (same ∙ sym on.first_is) in
     let loaded = on.fact valid.block valid.segment valid.loaded valid.spells in
-    run_is z x.by.job (pass_of x) s0.me.0 s3.me.0 cell from until before after ahead t
-    (tried_of z x.by.job (pass_of x) s0.me.0 s3.me.0 cell from until before after t (record {
+    tried_of z x.seen x.start x.own x.by s0.me.0 s3.me.0 cell from until before after t (record {
       again = record {
         word = first;
         even = even;
@@ -910,7 +895,7 @@ reader_answered z cell first second from until s0 s1 s2 s3 l before after t x ah
       };
       contents = valid.segment;
       sound = valid.spells.sound;
-      gives = subst (λ (by : TxnName). GiveView z x.seen x.start x.own by valid.segment) (sym (name_is x)) valid.fact;
+      gives = valid.fact;
       rows_are = rows_of_run valid.block valid.segment valid.spells l from until before after loaded;
       answer_is = decodes valid.block valid.segment before after valid.spells loaded;
-    }))
+    })

@@ -20,7 +20,7 @@ use Rattle.pass_steps.specs.CellsModel.Indexed.{covers}
 use Rattle.pass_steps.specs.CellsModel.Reads.{Reading, first_loaded, second_loaded}
 use Rattle.pass_steps.specs.CellsModel.Words.{Spells}
 use Rattle.pass_steps.specs.RuleModel.Sight.{HasPass, Sight, with_found}
-use Rattle.pass_steps.specs.StoreWords.Reads.{HasOpenPass, HasReader, PassIsTold, read_ended, reading_ended}
+use Rattle.pass_steps.specs.StoreWords.Reads.{HasOpenPass, PassIsTold, read_ended, reading_ended}
 use Rattle.pass_steps.specs.StoreWords.Steps.{Knows}
 use Rattle.optimistic_read.specs.declared.decode.LookedUp.{LookedUp}
 use Rattle.optimistic_read.specs.declared.tried.Tried.{Tried}

@@ -4,6 +4,9 @@ use Rattle.std.specs.List.{filter}
 use Rattle.graph_model.specs.declared.limits.TheConstants.{SCAN_ROWS}
 use Rattle.graph_model.specs.declared.row.Key.{Key}
 use Rattle.graph_model.specs.declared.row.Row.{Row}
+use Rattle.graph_model.specs.declared.write.Write.{Write}
+use Rattle.graph_model.specs.declared.journal.Commit.{Commit}
+use Rattle.graph_model.specs.declared.journal.TxnName.{TxnName}
 use Rattle.graph_model.specs.Graph.{Graph}
 use Rattle.graph_model.specs.Rows.{is_below, is_between, rows}
 use Rattle.txn_manager.specs.declared.config.Config.{Config}
@@ -11,6 +14,7 @@ use Rattle.store_model.specs.Stamped.{StampedVersions}
 use Rattle.pass_steps.specs.VersionSegment.Resting.{is_marked, word_row, word_rows}
 use Rattle.pass_steps.specs.VersionSegment.Rows.{IsSegment, VersionedRows, range_of}
 use Rattle.pass_steps.specs.StoreRelation.Passes.{PassState, name_at}
+use Rattle.pass_steps.specs.StoreRelation.Readers.{ReaderState}
 use Rattle.pass_steps.specs.CellsModel.Indexed.{covers}
 use Rattle.pass_steps.specs.RuleModel.BlockSteps.{GiveView}
 use Rattle.pass_steps.specs.RuleModel.Sight.{Sight}
@@ -94,26 +98,36 @@ decoded_rows s from until room = cond (covers s from) (front_of room (range_of f
 -- ---- causes
 
 -- The block of the cell was validated. The rows behind those that stood in the buffer, and the answer, are those of
--- contents that it spelled, in which the transaction sees its view.
-pub record IsRunRead (z : Config) (p : ℕ) (st : PassState) (old new : Sight) (cell : ℕ) (from until : Key)
-    (before after : List Row) (answer : TriedRun) : Type 0 where
+-- contents that it spelled, in which a transaction sees its view: it began at this start, has made these writes, and its
+-- account has seen these commits.
+pub record IsRunRead (z : Config) (seen : List Commit) (start : ℕ) (own : List Write) (by : TxnName) (old new : Sight)
+    (cell : ℕ) (from until : Key) (before after : List Row) (answer : TriedRun) : Type 0 where
   pub again : FindsAgain cell old.reads.found new.reads.found
   pub contents : VersionedRows
   pub sound : IsSegment contents
-  pub gives : GiveView z st.seen st.start st.own (name_at p st) contents
+  pub gives : GiveView z seen start own by contents
   pub rows_are : after ≡ before ++ decoded_rows contents from until (room_behind before)
   pub answer_is : answer ≡ decoded_run contents from until (room_behind before)
 
 -- each answer, with its cause
-abbrev pub IsTriedRun : Config → ℕ → PassState → Sight → Sight → ℕ → Key → Key → List Row → List Row → TriedRun → Type 0
-IsTriedRun z p st old new cell from until before after (found.Rows end) =
-    IsRunRead z p st old new cell from until before after (found.Rows end)
-IsTriedRun z p st old new cell from until before after (found.Busy c first second) =
+abbrev pub IsTriedRunBy : Config → List Commit → ℕ → List Write → TxnName → Sight → Sight → ℕ → Key → Key → List Row
+    → List Row → TriedRun → Type 0
+IsTriedRunBy z seen start own by old new cell from until before after (found.Rows end) =
+    IsRunRead z seen start own by old new cell from until before after (found.Rows end)
+IsTriedRunBy z seen start own by old new cell from until before after (found.Busy c first second) =
     IsBusy cell c first second old.reads.found new.reads.found
-IsTriedRun z p st old new cell from until before after (found.Chained k end) =
-    IsRunRead z p st old new cell from until before after (found.Chained k end)
-IsTriedRun z p st old new cell from until before after (found.Moved low high) =
-    IsRunRead z p st old new cell from until before after (found.Moved low high)
+IsTriedRunBy z seen start own by old new cell from until before after (found.Chained k end) =
+    IsRunRead z seen start own by old new cell from until before after (found.Chained k end)
+IsTriedRunBy z seen start own by old new cell from until before after (found.Moved low high) =
+    IsRunRead z seen start own by old new cell from until before after (found.Moved low high)
+
+-- by the open transaction of a pass
+abbrev pub IsTriedRun : Config → ℕ → PassState → Sight → Sight → ℕ → Key → Key → List Row → List Row → TriedRun → Type 0
+IsTriedRun z p st = IsTriedRunBy z st.seen st.start st.own (name_at p st)
+
+-- by a seat that reads another one's transaction
+abbrev pub IsReaderRun : Config → ReaderState → Sight → Sight → ℕ → Key → Key → List Row → List Row → TriedRun → Type 0
+IsReaderRun z x = IsTriedRunBy z x.seen x.start x.own x.by
 
 -- ---- the view
 

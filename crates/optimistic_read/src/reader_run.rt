@@ -9,7 +9,7 @@ ghost use Rattle.graph_model.specs.Rows.{is_below};
 ghost use Rattle.pass_steps.specs.RuleModel.Sight.{cells_of};
 ghost use Rattle.pass_steps.specs.StoreRelation.Readers.{ReaderState};
 ghost use Rattle.pass_steps.specs.StoreWords.Reads.{HasReader};
-ghost use Rattle.optimistic_read.specs.Runs.{IsRun};
+ghost use Rattle.optimistic_read.specs.Runs.{IsReaderRun, IsRun};
 ghost use Rattle.optimistic_read.specs.Tried.{SeatReads};
 
 use crate::block::BlockRead;
@@ -35,6 +35,9 @@ pub fn try_reader_run(
     requires reader { HasReader seat.old.me.0 }
     requires ahead { is_below from until ≡ true }
     ensures reads { SeatReads seat.old seat.new }
+    ensures tried { (x : ReaderState) → seat.old.me.0.readers ≡ x ∷ []
+        → IsReaderRun store.now.accounts.config x seat.old.me.0 seat.new.me.0 route.now.cell from until rows.old
+        rows.new result }
     ensures run { (x : ReaderState) → seat.old.me.0.readers ≡ x ∷ []
         → IsRun result (view store.now.accounts.config.kind x.seen x.start x.own) from until rows.old rows.new }
 {
@@ -53,10 +56,9 @@ fn read_block_run(
     requires table { seat.old.table_id ≡ accounts.now.table.shared.table_id }
     requires cell { cell < cells_of accounts.now.config }
     requires reader { HasReader seat.old.me.0 }
-    requires ahead { is_below from until ≡ true }
     ensures reads { SeatReads seat.old seat.new }
-    ensures run { (x : ReaderState) → seat.old.me.0.readers ≡ x ∷ []
-        → IsRun result (view accounts.now.config.kind x.seen x.start x.own) from until rows.old rows.new }
+    ensures tried { (x : ReaderState) → seat.old.me.0.readers ≡ x ∷ []
+        → IsReaderRun accounts.now.config x seat.old.me.0 seat.new.me.0 cell from until rows.old rows.new result }
 {
     let first = accounts.first_load(seat, cell);
     if first % 2 == 1 {

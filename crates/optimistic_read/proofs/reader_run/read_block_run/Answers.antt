@@ -1,7 +1,7 @@
-use Rattle.std.proofs.Common.{◌≡◌, ◌%◌, ◌∙◌, arith}
+use Rattle.std.proofs.Common.{◌≡◌, ◌%◌, arith}
 use Rattle.optimistic_read.specs.Runs.{IsRunLoaded}
 use Rattle.optimistic_read.proofs.RunLemmas.{reader_answered}
-use Rattle.optimistic_read.proofs.TryLemmas.{readers_there, valid_now}
+use Rattle.optimistic_read.proofs.TryLemmas.{valid_now}
 use Rattle.optimistic_read.proofs.reader_run.read_block_run.Goals as goal
 
 pub decode_run-requires : goal.decode_run-requires
@@ -13,14 +13,14 @@ decode_run-requires c = record {
       c.load_run-loaded.ensures.known c.if-second-first.false;
 }
 
-pub returns-clause-run : goal.returns-clause-run
-returns-clause-run c x has =
+pub returns-clause-tried : goal.returns-clause-tried
+returns-clause-tried c x has =
     let not_odd = c.if-first-eq1.false in
     let even : c.first_load-first.result % 2 ≡ 0 = omega (arith, not_odd) in
     reader_answered c.args.accounts.now.config c.args.cell c.first_load-first.result c.reader_second_load-second.result
     c.args.from c.args.until c.args.seat.now c.first_load-first.new.seat c.load_run-loaded.new.seat
     c.reader_second_load-second.new.seat c.load_run-loaded.result c.args.rows.now c.load_run-loaded.new.rows
-    c.decode_run.result x c.requires.ahead
+    c.decode_run.result x
     c.first_load-first.ensures.begun c.load_run-loaded.ensures.still c.reader_second_load-second.ensures.ended
     c.load_run-loaded.ensures.known c.reader_second_load-second.ensures.told even c.if-second-first.false
     c.decode_run.ensures.decoded has

@@ -1,3 +1,4 @@
+use Rattle.pass_steps.specs.StoreRelation.Passes.{name_at}
 use Rattle.pass_steps.specs.Passes.{state_of}
 use Rattle.optimistic_read.proofs.RunLemmas.{run_is}
 use Rattle.optimistic_read.proofs.scan.try_run.Goals as goal
@@ -5,7 +6,8 @@ use Rattle.optimistic_read.proofs.scan.try_run.Goals as goal
 pub returns-clause-run : goal.returns-clause-run
 returns-clause-run c =
     let pass = c.args.pass.now in
-    run_is c.args.store.now.accounts.config pass.number (state_of pass) pass.account.me.0
+    let st = state_of pass in
+    run_is c.args.store.now.accounts.config st.seen st.start st.own (name_at pass.number st) pass.account.me.0
     c.try_block_run.new.seat.me.0 c.args.route.now.cell c.args.from c.args.until c.args.rows.now
     c.try_block_run.new.rows
     c.requires.ahead c.try_block_run.result
