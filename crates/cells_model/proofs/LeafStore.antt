@@ -1,7 +1,7 @@
 -- Modules of leaf_store that crates above name.
 pub use Rattle.leaf_store.proofs.CellLemmas
 pub use Rattle.leaf_store.proofs.FillEndLemmas
-pub use Rattle.leaf_store.proofs.FillLemmas
+pub use Rattle.leaf_store.proofs.LeafTable.FillLemmas
 pub use Rattle.leaf_store.proofs.FillStepLemmas
 pub use Rattle.leaf_store.proofs.HalfLemmas
 pub use Rattle.leaf_store.proofs.ListLemmas

@@ -27,10 +27,11 @@ use Rattle.txn_manager.specs.declared.config.RoomRefusal.{RoomRefusal}
 use Rattle.txn_manager.specs.declared.config.RoomRefusal.TheVariants as refusals
 use Rattle.leaf_store.specs.Leaves.{weight_of_part}
 use Rattle.leaf_store.specs.Changes.{AreFilled, AreRising, IsFillRefusal, settled_at}
-use Rattle.leaf_store.specs.Fill.{AreSettled, AreTiedTo, IsFilling, IsFillStop, begin_of, next_key, parts_in}
+use Rattle.leaf_table.specs.Settled.{AreSettled, next_key}
+use Rattle.leaf_store.specs.Fill.{AreTiedTo, IsFilling, IsFillStop, begin_of, parts_in}
 use Rattle.leaf_store.specs.Table.{AreStamped, IsKept, IsTied, AreTied, part_of, segments_or_none, segments_at, leaves_of}
 use Rattle.leaf_store.proofs.CellLemmas.{AreSound}
-use Rattle.leaf_store.proofs.FillLemmas.{cut_until, sorted_front, within_front}
+use Rattle.leaf_table.proofs.FillLemmas.{cut_until, sorted_front, within_front}
 use Rattle.leaf_store.proofs.FillStepLemmas.{sorted_further}
 use Rattle.leaf_store.proofs.KeyLemmas.{from_above}
 use Rattle.leaf_queue.proofs.ListLemmas.{get_set_same}

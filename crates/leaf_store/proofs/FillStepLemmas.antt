@@ -22,10 +22,11 @@ use Rattle.leaf_table.proofs.LeafArray.LeafLemmas.{Follow, follow-of}
 use Rattle.leaf_table.proofs.LeafArray.PairLemmas.{rows-append}
 use Rattle.leaf_index.specs.Index.{Index, Entry, AreCuts, AreSorted as AreSortedKeys, HaveCuts, IsIndex, IsTaken, NotAbove, end_of, first_or}
 use Rattle.leaf_index.specs.Calls.{CanAdd, with_leaf}
-use Rattle.leaf_store.specs.Fill.{AreSettled, AreTiedTo, IsFilling, begin_of, next_key, parts_in}
+use Rattle.leaf_table.specs.Settled.{AreSettled, IsLeafFrom, next_key}
+use Rattle.leaf_store.specs.Fill.{AreTiedTo, IsFilling, begin_of, parts_in}
 use Rattle.leaf_store.specs.Table.{IsTied, part_of, segments_or_none, segments_at}
 use Rattle.leaf_store.proofs.CellLemmas.{AreSound}
-use Rattle.leaf_store.proofs.FillLemmas.{all_within_back, cut_until, sorted_back, sorted_front, within_back, within_front}
+use Rattle.leaf_table.proofs.FillLemmas.{NextRows}
 use Rattle.leaf_store.proofs.HalfLemmas.{SameMemory}
 use Rattle.leaf_queue.proofs.ListLemmas.{get_set_same, get_set_other}
 use Rattle.leaf_store.proofs.ListLemmas.{all_back}
@@ -88,53 +89,12 @@ all_below : (low high : Key) (es : List Entry) → is_below low high ≡ true �
 all_below low high [] lt below = tt
 all_below low high (e ∷ es) lt below = (below_chain e.low low high below.0 lt, all_below low high es lt below.1)
 
--- ---- the rows of the next leaf
-
-pub record NextRows (rows here behind : List Row) (at : ℕ) : Type 0 where
-  pub low : is_below (first_key_or here end_key) (first_key_or behind end_key) ≡ true
-  pub sorted : AreSorted here
-  pub within : AreWithin (first_key_or here end_key) (first_key_or behind end_key) here
-  pub until : is_below end_key (first_key_or behind end_key) ≡ false
-  pub begin : next_key rows at ≡ first_key_or here end_key
-  pub front : take (at + length here) rows ≡ take at rows ++ here
-  pub rest : drop (at + length here) rows ≡ behind
-  pub all : length rows ≡ at + length here + length behind
-
-take_more_of : (xs here behind : List Row) → (take (length xs + length here) (xs ++ (here ++ behind)) ≡ xs ++ here) × (drop (length xs + length here) (xs ++ (here ++ behind)) ≡ behind)
-take_more_of xs here behind =
-    let size : length xs + length here ≡ length (xs ++ here) = sym (length-append xs here) in
-    (ap₂ take size (sym (append_assoc xs here behind)) ∙ take-append_seam (xs ++ here) behind, ap₂ drop size (sym (append_assoc xs here behind)) ∙ drop-append_seam (xs ++ here) behind)
-
-pub next_rows : (rows here behind : List Row) (at : ℕ) → AreSorted rows → AreWithin first_key end_key rows → at ≤ length rows → drop at rows ≡ here ++ behind → 1 ≤ length here → NextRows rows here behind at
-next_rows rows [] behind at sorted within le is some = absurd (omega (arith, some))
-next_rows rows (r ∷ here) behind at sorted within le is some =
-    let xs = take at rows in
-    let size : length xs ≡ at = length-take-le at rows le in
-    let all : rows ≡ xs ++ ((r ∷ here) ++ behind) = sym (take-append-drop at rows) ∙ ap (λ ys. xs ++ ys) is in
-    let sorted' : AreSorted ((r ∷ here) ++ behind) = sorted_back xs ((r ∷ here) ++ behind) (subst AreSorted all sorted) in
-    let within' : AreWithin first_key end_key ((r ∷ here) ++ behind) = all_within_back first_key end_key xs ((r ∷ here) ++ behind) (subst (AreWithin first_key end_key) all within) in
-    let parts = take_more_of xs (r ∷ here) behind in
-    let count : at + length (r ∷ here) ≡ length xs + length (r ∷ here) = omega (arith, size) in
-    record {
-      low = next behind sorted'.0 (between_parts first_key end_key r.key within'.0).1;
-      sorted = sorted_front (r ∷ here) behind sorted';
-      within = within_front r.key end_key (r ∷ here) behind sorted' (within_back first_key end_key [] ((r ∷ here) ++ behind) sorted' within');
-      until = cut_until first_key end_key (r ∷ here) behind within';
-      begin = ap (λ ys. first_key_or ys end_key) is;
-      front = ap₂ take count all ∙ parts.0;
-      rest = ap₂ drop count all ∙ parts.1;
-      all = omega (arith, ap length all, length-append xs ((r ∷ here) ++ behind), length-append (r ∷ here) behind, size);
-    }
-  where
-    next : (ys : List Row) → AreAbove r.key (here ++ ys) → is_below r.key end_key ≡ true → is_below r.key (first_key_or ys end_key) ≡ true
-    next [] above until = until
-    next (y ∷ ys) above until = (above_last here above)
-      where
-        above_last : (xs : List Row) → AreAbove r.key (xs ++ y ∷ ys) → is_below r.key y.key ≡ true
-        above_last [] above = above.0
-        above_last (x ∷ xs) above = above_last xs above.1
-
 -- ---- the leaf is added
+
+-- the memory that was made for it
+pub settled_from : (rows here behind : List Row) (at : ℕ) (memory : Box Leaf Global) → IsLeafFrom rows at memory → here ≡ take (min (length (drop at rows)) 208) (drop at rows)
+    → behind ≡ drop (min (length (drop at rows)) 208) (drop at rows) → AreSettled (first_key_or here end_key) (first_key_or behind end_key) here memory.value.segments
+settled_from rows here behind at memory is front back = rw (front, back) is.settled
 
 module _ (rows here behind : List Row) (at : ℕ) (index taken : Index) (table : Table) (leaf : ℕ) (filling : IsFilling rows at index table) (more : at < length rows) (takes : index ≡ record taken { free = taken.free ++ leaf ∷ [] }) (free : IsTaken taken leaf) (next : NextRows rows here behind at) where
   abbrev low : Key

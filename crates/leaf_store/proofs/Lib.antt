@@ -15,7 +15,6 @@ pub mod KeyLemmas
 pub mod SplitLemmas
 pub mod HalfLemmas
 pub mod FewLemmas
-pub mod FillLemmas
 pub mod FillStepLemmas
 pub mod FillEndLemmas
 pub mod WalkLemmas
@@ -27,4 +26,5 @@ pub mod LeafRangeLemmas
 pub mod RecordLemmas
 pub mod LeafArray
 pub mod LeafArrayMade
+pub mod LeafTable
 pub mod VersionSegment

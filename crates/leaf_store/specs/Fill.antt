@@ -1,11 +1,10 @@
 -- Rows laid in segments one behind the other. Only the crate itself speaks of it.
-use Rattle.std.specs.Prelude.{◌≡◌, ℕ, ◌+◌, ◌-◌, ◌*◌, ◌<◌, ◌≤◌, true, List, [], ◌∷◌, length, map, sum, take, drop, Option}
+use Rattle.std.specs.Prelude.{◌≡◌, ℕ, ◌+◌, ◌-◌, ◌*◌, ◌<◌, ◌≤◌, true, List, [], ◌∷◌, length, map, min, sum, take, Option}
 use Rattle.std.specs.List.{AllByRecursion, flat_map}
 use Rattle.std.specs.declared.boxed.Box.{Box}
 use Rattle.std.specs.declared.alloc.Global.{Global}
 use Rattle.graph_model.specs.declared.limits.TheConstants.{SPLIT_ROWS}
-use Rattle.graph_model.specs.Rows.{is_below, end_key}
-use Rattle.gap_segment.specs.Fenced.{first_key_or}
+use Rattle.graph_model.specs.Rows.{is_below}
 use Rattle.txn_manager.specs.declared.config.RoomRefusal.{RoomRefusal}
 use Rattle.txn_manager.specs.declared.config.RoomRefusal.TheVariants as refusals
 use Rattle.leaf_table.specs.LeafArrayDeclared.leaf.Leaf.{Leaf}
@@ -14,15 +13,9 @@ use Rattle.leaf_store.specs.Leaves.{Part, weight_of_part}
 use Rattle.leaf_store.specs.Table.{IsTied, part_of, segments_at}
 use Rattle.graph_model.specs.declared.row.Key.{Key}
 use Rattle.graph_model.specs.declared.row.Row.{Row}
-use Rattle.leaf_table.specs.VersionSegment.Rows.{VersionedRows, settled_rows}
-use Rattle.leaf_table.specs.LeafArray.Segments.{rows_of, low_or, high_or, AreChained}
-
--- the rows, each of them settled, between these fence keys
-pub record AreSettled (low high : Key) (rows : List Row) (ss : List VersionedRows) : Type 0 where
-  pub begins : low_or ss low ≡ low
-  pub chained : AreChained ss
-  pub ends : high_or ss low ≡ high
-  pub rows_are : rows_of ss ≡ settled_rows rows
+use Rattle.leaf_table.specs.VersionSegment.Rows.{settled_rows}
+use Rattle.leaf_table.specs.LeafArray.Segments.{rows_of}
+use Rattle.leaf_table.specs.Settled.{next_key}
 
 -- where the first of these entries begins, or else the given end
 abbrev pub begin_of : List Entry → Key → Key
@@ -33,10 +26,6 @@ begin_of (e ∷ es) high = e.low
 abbrev pub AreTiedTo : List (Option (Box Leaf Global)) → Key → List Entry → Type 0
 AreTiedTo table high [] = Unit {0}
 AreTiedTo table high (e ∷ es) = IsTied (segments_at table e.leaf) e (begin_of es high) × AreTiedTo table high es
-
--- the key of the first row that is left, or the last key
-abbrev pub next_key : List Row → ℕ → Key
-next_key rows at = first_key_or (drop at rows) end_key
 
 abbrev pub parts_in : Index → List (Option (Box Leaf Global)) → List Part
 parts_in index table = map (part_of table) index.entries

@@ -10,5 +10,6 @@ pub mod Pairs
 pub mod Queued
 pub mod LeafArray
 pub mod LeafArrayDeclared
+pub mod LeafTable
 pub mod LeafTableDeclared
 pub mod VersionSegment

@@ -1,4 +1,5 @@
 pub mod LookLemmas
+pub mod FillLemmas
 pub mod LeafArray
 pub mod LeafArrayMade
 pub mod VersionSegment

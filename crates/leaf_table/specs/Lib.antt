@@ -1,3 +1,4 @@
 pub mod LeafArray
 pub mod LeafArrayDeclared
 pub mod VersionSegment
+pub mod Settled

@@ -6,12 +6,14 @@
 
 mod ahead;
 pub mod below;
+mod fill;
 mod finger;
 mod look;
 mod place;
 mod table;
 
 pub use ahead::{count_with_memory, fingers_at, sum_ahead, sum_leaf_ahead};
+pub use fill::{FULL_LEAF, begin_of, leaf_from, leaves_from, settled_leaf};
 pub use finger::Finger;
 pub use look::{counts_of, cuts_of};
 pub use place::Place;

@@ -17,9 +17,11 @@ use Rattle.rule_model.specs.LeafArray.Leaves.{IsLeaf}
 use Rattle.rule_model.specs.LeafArray.Segments.{lows_of}
 use Rattle.leaf_index.specs.Index.{Index, IsIndex, IsTaken}
 use Rattle.leaf_index.specs.Calls.{CanAdd, CanCut, new_index, with_cuts, with_leaf}
-use Rattle.rule_model.specs.LeafStore.Fill.{AreSettled, IsFilling}
+use Rattle.rule_model.specs.LeafStore.Settled.{AreSettled}
+use Rattle.rule_model.specs.LeafStore.Fill.{IsFilling}
 use Rattle.rule_model.proofs.LeafStore.FillEndLemmas.{FirstRows, first_cuts, first_filling, first_rows}
-use Rattle.rule_model.proofs.LeafStore.FillStepLemmas.{NextRows, can_add, filling_more, next_rows}
+use Rattle.rule_model.proofs.LeafStore.FillLemmas.{NextRows, next_rows}
+use Rattle.rule_model.proofs.LeafStore.FillStepLemmas.{can_add, filling_more}
 use Rattle.loaded_cells.specs.Laid.{AreDivided, HaveCells}
 use Rattle.loaded_cells.specs.Ranges.{AreIdle, cells_in_memory, eight_or_idle, leaf_segments, segments_from}
 use Rattle.loaded_cells.specs.declared.fill.LoadedRange.{LoadedRange}

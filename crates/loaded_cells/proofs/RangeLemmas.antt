@@ -11,7 +11,7 @@ use Rattle.gap_segment.specs.Fenced.{AreAbove, AreSorted, AreWithin, first_key_o
 use Rattle.store_model.specs.Stamped.{StampedVersions}
 use Rattle.rule_model.specs.VersionSegment.Rows.{IsSegment, VersionedRows, is_nothing, settled_rows, settled_row}
 use Rattle.rule_model.specs.VersionSegment.Resting.{resting_row, settled_rest, word_row}
-use Rattle.rule_model.specs.LeafStore.Fill.{AreSettled}
+use Rattle.rule_model.specs.LeafStore.Settled.{AreSettled}
 use Rattle.rule_model.proofs.LeafStore.FillLemmas.{cut_from, cut_until, last_cut, more_settled, none_settled, sorted_back, sorted_front, within_back, within_front}
 use Rattle.loaded_cells.specs.Ranges.{AreIdle, IsIdleRange, eight_or_idle, leaf_segments, segment_of, segments_from}
 use Rattle.loaded_cells.specs.declared.fill.LoadedRange.{LoadedRange}

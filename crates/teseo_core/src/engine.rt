@@ -16,7 +16,6 @@ use graph_model::{
     BeginRefusal, Begun, Cursor, Engine, Kind, LoadEngine, LoadRefusal, NoMemory, Refusal, Rows64,
     StepEngine, VertexEngine, Write, Writes,
 };
-use load_order::sorted_rows;
 
 impl Engine for Core {
     ghost account = { λ s. account_here s.core };
@@ -130,7 +129,6 @@ impl StepEngine for Core {
 
 impl LoadEngine for Core {
     fn load(&mut self, load: Writes) -> Result<(), LoadRefusal> {
-        let sorted = sorted_rows(self.alloc, self.kind, load.as_slice())?;
-        self.load_sorted(load, sorted)
+        self.load_here(load)
     }
 }

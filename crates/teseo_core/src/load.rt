@@ -3,7 +3,7 @@
 //! 1. Rows are sorted and leaves filled with them, where write by write each would cost two searches in memory that no
 //!    cache has.
 
-ghost use Rattle.std.specs.Prelude.{◌≡◌, ◌≤◌, [], IsSome, IfOk, IfErr, OnOk, OnErr};
+ghost use Rattle.std.specs.Prelude.{◌≡◌, ℕ, ◌≤◌, [], IsSome, IfOk, IfErr, OnOk, OnErr};
 ghost use Rattle.std.specs.List.{AllByRecursion};
 ghost use Rattle.graph_model.specs.declared.limits.TheConstants.{MAX_LEAVES};
 ghost use Rattle.graph_model.specs.Graph.{apply_all, empty_graph};
@@ -12,22 +12,32 @@ ghost use Rattle.graph_model.specs.Loading.{IsNew, IsLoad, IsAdd, IsLoadRefusal,
 ghost use Rattle.graph_model.specs.OwnerCalls.{Core as OwnerCore};
 ghost use Rattle.graph_model.specs.Refused.{AllAllowed, IsWithinLimits};
 ghost use Rattle.txn_manager.specs.Manager.{ended, open_start};
-ghost use Rattle.load_order.specs.Placings.{AreSortedRows};
-ghost use Rattle.leaf_rows.specs.Loaded.{AreLoaded};
+ghost use Rattle.leaf_rows.specs.Loaded.{AreLoaded, IsLoadTooLarge};
 ghost use Rattle.teseo_core.specs.Loads.{HasBegunLoad, IsTooMuch, journal_behind, loading};
 
 use crate::store::{Core, name_of};
-use graph_model::{BeginRefusal, Kind, LoadRefusal, NoMemory, Row, TxnName, Write, Writes};
+use graph_model::{BeginRefusal, Kind, LoadRefusal, NoMemory, TxnName, Write, Writes};
 use items::Items;
 use leaf_rows::LeafRows;
-use load_order::sorted_by_threads;
+use load_order::{sorted_by_threads, sorted_rows};
 use std::alloc::Global;
 use std::thread::Threads;
 use txn_manager::{RoomRefusal, TxnManager};
 
 impl Core {
-    /// Makes the writes of a load as the engine's first transaction, and commits it: what `load` of `LoadEngine` does,
-    /// with rows that several threads sort.
+    /// Makes the writes of a load as the engine's first transaction, and commits it: what `load` of `LoadEngine` does.
+    pub(crate) fn load_here(&mut self, load: Writes) -> Result<(), LoadRefusal>
+        requires new { IsNew self.old.core }
+        requires load { IsLoad self.old.core load }
+        ensures loaded { OnOk result (self.new.core ≡ loaded self.old.core load) }
+        ensures refused { IfErr result (IsLoadRefusal self.old.core load) }
+        ensures err { OnErr result (self.new.core ≡ self.old.core) }
+    {
+        let rows = load_rows(self.alloc, self.leaves, self.kind, load.as_slice())?;
+        self.load_filled(load, rows)
+    }
+
+    /// The same with rows that several threads sort, and lay in leaves.
     pub fn load_by_threads<R: Threads + Sync>(
         &mut self,
         rt: &R,
@@ -39,22 +49,21 @@ impl Core {
         ensures refused { IfErr result (IsLoadRefusal self.old.core load) }
         ensures err { OnErr result (self.new.core ≡ self.old.core) }
     {
-        let sorted = sorted_by_threads(rt, self.alloc, self.kind, load.as_slice())?;
-        self.load_sorted(load, sorted)
+        let rows = rows_by_threads(rt, self.alloc, self.leaves, self.kind, load.as_slice())?;
+        self.load_filled(load, rows)
     }
 
-    /// The same by the rows that the writes insert, which are let go of as soon as they are laid. What takes memory
-    /// comes before the first change.
-    pub(crate) fn load_sorted(&mut self, load: Writes, sorted: Vec<Row>) -> Result<(), LoadRefusal>
+    /// The same by the rows that the writes leave. What takes memory comes before the first change.
+    fn load_filled(&mut self, load: Writes, rows: LeafRows) -> Result<(), LoadRefusal>
         requires new { IsNew self.old.core }
         requires load { IsLoad self.old.core load }
-        requires sorted { AreSortedRows self.old.core.kind load sorted.items }
+        requires rows { AreLoaded self.old.core.leaves (apply_all self.old.core.kind empty_graph load)
+            (inserted self.old.core.kind load) rows }
         ensures loaded { OnOk result (self.new.core ≡ loaded self.old.core load) }
         ensures refused { IfErr result (IsLoadRefusal self.old.core load) }
         ensures err { OnErr result (self.new.core ≡ self.old.core) }
     {
-        // Rows and copy are made before the transaction begins, so that one that has begun can't fail.
-        let rows = load_rows(self.alloc, self.leaves, self.kind, load.as_slice(), sorted)?;
+        // The copy is made before the transaction begins, so that one that has begun can't fail.
         let copy = copy_of(self.alloc, &load)?;
         match self.begin_here() {
             Ok(_) => {}
@@ -95,28 +104,60 @@ fn end_load(manager: &mut TxnManager, by: TxnName, load: Writes)
     }
 }
 
-/// The rows that the writes of a load leave. Those that they insert are let go of.
+/// The rows that the writes of a load leave. Those that they insert are let go of as soon as they are laid.
 fn load_rows(
     alloc: Global,
     leaves: u32,
     kind: Kind,
     load: &[Write],
-    sorted: Vec<Row>,
 ) -> Result<LeafRows, LoadRefusal>
     requires some { 1 ≤ leaves }
     requires few { leaves ≤ MAX_LEAVES }
     requires adds { AllByRecursion IsAdd load.now }
     requires within { AllByRecursion IsWithinLimits load.now }
     requires allowed { AllAllowed kind empty_graph load.now }
-    requires sorted { AreSortedRows kind load.now sorted.items }
     ensures ok { IfOk result (λ rows.
         AreLoaded leaves (apply_all kind empty_graph load.now) (inserted kind load.now) rows) }
     ensures refused { IfErr result (λ refusal. IsTooMuch leaves (inserted kind load.now) refusal) }
 {
+    let sorted = sorted_rows(alloc, kind, load)?;
     match LeafRows::filled(alloc, leaves, kind, load, sorted.as_slice()) {
         Ok(rows) => Ok(rows),
-        Err(RoomRefusal::Full { leaves }) => Err(LoadRefusal::Full { leaves }),
-        Err(RoomRefusal::NoMemory) => Err(LoadRefusal::NoMemory),
+        Err(refusal) => Err(load_refusal(refusal)),
+    }
+}
+
+/// The same by several threads.
+fn rows_by_threads<R: Threads + Sync>(
+    rt: &R,
+    alloc: Global,
+    leaves: u32,
+    kind: Kind,
+    load: &[Write],
+) -> Result<LeafRows, LoadRefusal>
+    requires some { 1 ≤ leaves }
+    requires few { leaves ≤ MAX_LEAVES }
+    requires adds { AllByRecursion IsAdd load.now }
+    requires within { AllByRecursion IsWithinLimits load.now }
+    requires allowed { AllAllowed kind empty_graph load.now }
+    ensures ok { IfOk result (λ rows.
+        AreLoaded leaves (apply_all kind empty_graph load.now) (inserted kind load.now) rows) }
+    ensures refused { IfErr result (λ refusal. IsTooMuch leaves (inserted kind load.now) refusal) }
+{
+    let sorted = sorted_by_threads(rt, alloc, kind, load)?;
+    match LeafRows::filled_by_threads(rt, alloc, leaves, kind, load, sorted.as_slice()) {
+        Ok(rows) => Ok(rows),
+        Err(refusal) => Err(load_refusal(refusal)),
+    }
+}
+
+/// Why there is no room for a load.
+fn load_refusal(refusal: RoomRefusal) -> LoadRefusal
+    ensures { (leaves most : ℕ) → IsLoadTooLarge leaves most refusal → IsTooMuch leaves most result }
+{
+    match refusal {
+        RoomRefusal::Full { leaves } => LoadRefusal::Full { leaves },
+        RoomRefusal::NoMemory => LoadRefusal::NoMemory,
     }
 }
 

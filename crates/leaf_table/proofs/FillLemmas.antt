@@ -1,16 +1,17 @@
 -- Rows in rising order, laid in segments one behind the other.
-use Rattle.std.proofs.Common.{◌≡◌, ◌*◌, ◌≤◌, List, [], ◌∷◌, ◌++◌, length, refl, sym, ◌∙◌, ap, ap₂, subst, arith}
+use Rattle.std.proofs.Common.{◌≡◌, ℕ, ◌+◌, ◌*◌, ◌≤◌, List, [], ◌∷◌, ◌++◌, length, take, drop, refl, sym, ◌∙◌, ap, ap₂, subst, arith, length-append, append_assoc}
 use Rattle.std.specs.Prelude.{true, false}
-use Rattle.std.proofs.lemmas.List.{map-append}
+use Rattle.std.proofs.lemmas.List.{map-append, take-append-drop, length-take-le}
+use Rattle.std.proofs.Math.Seq.{take-append_seam, drop-append_seam}
 use Rattle.graph_model.specs.declared.row.Key.{Key}
 use Rattle.graph_model.specs.declared.row.Row.{Row}
-use Rattle.graph_model.specs.Rows.{is_below}
+use Rattle.graph_model.specs.Rows.{is_below, first_key, end_key}
 use Rattle.graph_model.proofs.KeyLemmas.{below_flip, below_self, between_of, between_parts}
 use Rattle.store_model.specs.Stamped.{StampedVersions}
 use Rattle.gap_segment.specs.Fenced.{AreAbove, AreSorted, AreWithin, first_key_or}
-use Rattle.leaf_table.specs.VersionSegment.Rows.{VersionedRows, settled_row, settled_rows}
-use Rattle.leaf_table.specs.LeafArray.Segments.{rows_of, low_or, high_or}
-use Rattle.leaf_store.specs.Fill.{AreSettled}
+use Rattle.leaf_array.specs.VersionSegment.Rows.{VersionedRows, settled_row, settled_rows}
+use Rattle.leaf_array.specs.Segments.{rows_of, low_or, high_or}
+use Rattle.leaf_table.specs.Settled.{AreSettled, next_key}
 
 -- ---- rows in two parts
 
@@ -93,3 +94,49 @@ more_settled low cut high rows here behind s rest are begins ends own others = r
 pub last_cut : (high : Key) (ys : List Row) → length ys ≡ 0 → first_key_or ys high ≡ high
 last_cut high [] none = refl
 last_cut high (y ∷ ys) none = absurd (omega (arith, none))
+
+-- ---- the rows of the next leaf
+
+pub record NextRows (rows here behind : List Row) (at : ℕ) : Type 0 where
+  pub low : is_below (first_key_or here end_key) (first_key_or behind end_key) ≡ true
+  pub sorted : AreSorted here
+  pub within : AreWithin (first_key_or here end_key) (first_key_or behind end_key) here
+  pub until : is_below end_key (first_key_or behind end_key) ≡ false
+  pub begin : next_key rows at ≡ first_key_or here end_key
+  pub front : take (at + length here) rows ≡ take at rows ++ here
+  pub rest : drop (at + length here) rows ≡ behind
+  pub all : length rows ≡ at + length here + length behind
+
+take_more_of : (xs here behind : List Row) → (take (length xs + length here) (xs ++ (here ++ behind)) ≡ xs ++ here) × (drop (length xs + length here) (xs ++ (here ++ behind)) ≡ behind)
+take_more_of xs here behind =
+    let size : length xs + length here ≡ length (xs ++ here) = sym (length-append xs here) in
+    (ap₂ take size (sym (append_assoc xs here behind)) ∙ take-append_seam (xs ++ here) behind, ap₂ drop size (sym (append_assoc xs here behind)) ∙ drop-append_seam (xs ++ here) behind)
+
+pub next_rows : (rows here behind : List Row) (at : ℕ) → AreSorted rows → AreWithin first_key end_key rows → at ≤ length rows → drop at rows ≡ here ++ behind → 1 ≤ length here → NextRows rows here behind at
+next_rows rows [] behind at sorted within le is some = absurd (omega (arith, some))
+next_rows rows (r ∷ here) behind at sorted within le is some =
+    let xs = take at rows in
+    let size : length xs ≡ at = length-take-le at rows le in
+    let all : rows ≡ xs ++ ((r ∷ here) ++ behind) = sym (take-append-drop at rows) ∙ ap (λ ys. xs ++ ys) is in
+    let sorted' : AreSorted ((r ∷ here) ++ behind) = sorted_back xs ((r ∷ here) ++ behind) (subst AreSorted all sorted) in
+    let within' : AreWithin first_key end_key ((r ∷ here) ++ behind) = all_within_back first_key end_key xs ((r ∷ here) ++ behind) (subst (AreWithin first_key end_key) all within) in
+    let parts = take_more_of xs (r ∷ here) behind in
+    let count : at + length (r ∷ here) ≡ length xs + length (r ∷ here) = omega (arith, size) in
+    record {
+      low = next behind sorted'.0 (between_parts first_key end_key r.key within'.0).1;
+      sorted = sorted_front (r ∷ here) behind sorted';
+      within = within_front r.key end_key (r ∷ here) behind sorted' (within_back first_key end_key [] ((r ∷ here) ++ behind) sorted' within');
+      until = cut_until first_key end_key (r ∷ here) behind within';
+      begin = ap (λ ys. first_key_or ys end_key) is;
+      front = ap₂ take count all ∙ parts.0;
+      rest = ap₂ drop count all ∙ parts.1;
+      all = omega (arith, ap length all, length-append xs ((r ∷ here) ++ behind), length-append (r ∷ here) behind, size);
+    }
+  where
+    next : (ys : List Row) → AreAbove r.key (here ++ ys) → is_below r.key end_key ≡ true → is_below r.key (first_key_or ys end_key) ≡ true
+    next [] above until = until
+    next (y ∷ ys) above until = (above_last here above)
+      where
+        above_last : (xs : List Row) → AreAbove r.key (xs ++ y ∷ ys) → is_below r.key y.key ≡ true
+        above_last [] above = above.0
+        above_last (x ∷ xs) above = above_last xs above.1

@@ -4,7 +4,7 @@ use Rattle.std.proofs.lemmas.List.{length-replicate}
 use Rattle.leaf_index.specs.Index.{Index}
 use Rattle.leaf_store.proofs.FillEndLemmas.{is_filled, rising_sorted, rising_within}
 use Rattle.leaf_store.proofs.TendLemmas.{thin_tended}
-use Rattle.leaf_store.proofs.store.LeafStore.filled.Goals as goal
+use Rattle.leaf_store.proofs.store.LeafStore.filled_with.Goals as goal
 
 pub fill_first-requires-clause-sorted : goal.fill_first-requires-clause-sorted
 fill_first-requires-clause-sorted c = rising_sorted c.args.rows.now c.requires.rising

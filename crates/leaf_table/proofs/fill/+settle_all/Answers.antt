@@ -3,8 +3,8 @@ use Rattle.std.proofs.lemmas.List.{take-append-drop}
 use Rattle.std.specs.Prelude.{false}
 use Rattle.graph_model.specs.Rows.{is_below}
 use Rattle.gap_segment.specs.Fenced.{AreSorted, AreWithin}
-use Rattle.leaf_store.proofs.FillLemmas.{cut_from, cut_until, last_cut, parts_empty, sorted_back, sorted_front, within_back, within_front}
-use Rattle.leaf_store.proofs.fill.+settle_all.Goals as goal
+use Rattle.leaf_table.proofs.FillLemmas.{cut_from, cut_until, last_cut, parts_empty, sorted_back, sorted_front, within_back, within_front}
+use Rattle.leaf_table.proofs.fill.+settle_all.Goals as goal
 
 pub settle-requires-clause-empty : goal.settle-requires-clause-empty
 settle-requires-clause-empty t c = (parts_empty _ _ _ c.in-Some.ensures.cases.0 c.requires.empty).0

@@ -1,0 +1,2 @@
+-- Modules of leaf_table that crates above name.
+pub use Rattle.leaf_table.specs.Settled
