@@ -1,4 +1,3 @@
-pub mod MadeLemmas
 pub mod PassLemmas
 pub mod CountLemmas
 pub mod OpenLemmas

@@ -1,4 +1,3 @@
-pub mod Made
 pub mod Passes
 pub mod Keeping
 pub mod Loads

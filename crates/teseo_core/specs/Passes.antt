@@ -18,9 +18,8 @@ use Rattle.txn_manager.specs.declared.config.RoomRefusal.TheVariants as room_ref
 
 pub record RoomyPass : Type 0 where
   pub state : PassState
-  -- how many writes, and how many transactions, it may note with no memory taken
+  -- how many writes it may note with no memory taken
   pub writes : ℕ
-  pub txns : ℕ
 
 -- a pass that has begun nothing
 abbrev pub new_pass : ℕ → PassState

@@ -10,7 +10,6 @@
 mod engine;
 mod free;
 mod load;
-mod made;
 mod merge;
 mod pass;
 mod read;

@@ -16,8 +16,7 @@ ghost use Rattle.leaf_rows.specs.Loaded.{AreLoaded, IsLoadTooLarge};
 ghost use Rattle.teseo_core.specs.Loads.{HasBegunLoad, IsTooMuch, journal_behind, loading};
 
 use crate::store::{Core, name_of};
-use graph_model::{BeginRefusal, Kind, LoadRefusal, NoMemory, TxnName, Write, Writes};
-use items::Items;
+use graph_model::{BeginRefusal, Kind, LoadRefusal, TxnName, Write, Writes};
 use leaf_rows::LeafRows;
 use load_order::{sorted_by_threads, sorted_rows};
 use std::alloc::Global;
@@ -53,7 +52,7 @@ impl Core {
         self.load_filled(load, rows)
     }
 
-    /// The same by the rows that the writes leave. What takes memory comes before the first change.
+    /// The same by the rows that the writes leave. A transaction that has begun can't fail.
     fn load_filled(&mut self, load: Writes, rows: LeafRows) -> Result<(), LoadRefusal>
         requires new { IsNew self.old.core }
         requires load { IsLoad self.old.core load }
@@ -63,28 +62,25 @@ impl Core {
         ensures refused { IfErr result (IsLoadRefusal self.old.core load) }
         ensures err { OnErr result (self.new.core ≡ self.old.core) }
     {
-        // The copy is made before the transaction begins, so that one that has begun can't fail.
-        let copy = copy_of(self.alloc, &load)?;
         match self.begin_here() {
             Ok(_) => {}
             Err(BeginRefusal::TxnsUsed) => unreachable!(),
             Err(BeginRefusal::NoMemory) => return Err(LoadRefusal::NoMemory),
         }
-        self.take_load(rows, load, copy);
+        self.take_load(rows, load);
         Ok(())
     }
 
     /// Takes the rows of a load for its own, whose transaction is open and has made no write, and commits it. Takes no
     /// memory.
-    fn take_load(&mut self, rows: LeafRows, load: Writes, copy: Writes)
+    fn take_load(&mut self, rows: LeafRows, load: Writes)
         requires begun { HasBegunLoad load self.old.core }
         requires rows { AreLoaded self.old.core.leaves (apply_all self.old.core.kind empty_graph load)
             (inserted self.old.core.kind load) rows }
-        requires copy { copy ≡ load }
         ensures { (core : OwnerCore) → IsNew core → self.old.core ≡ loading core [] → self.new.core ≡ loaded core load }
     {
         let by = name_of(&self.passes[self.selected as usize], self.selected);
-        self.passes[self.selected as usize].note_load(copy);
+        self.passes[self.selected as usize].note_load(&load);
         end_load(&mut self.manager, by, load);
         self.rows = rows;
     }
@@ -159,12 +155,4 @@ fn load_refusal(refusal: RoomRefusal) -> LoadRefusal
         RoomRefusal::Full { leaves } => LoadRefusal::Full { leaves },
         RoomRefusal::NoMemory => LoadRefusal::NoMemory,
     }
-}
-
-/// A second list of the same writes.
-fn copy_of(alloc: Global, writes: &Writes) -> Result<Writes, NoMemory>
-    ensures { IfOk result (λ copy. copy ≡ writes.now) }
-{
-    let copy = Vec::from_slice(alloc, writes.as_slice())?;
-    Ok(Items::from_vec(copy))
 }

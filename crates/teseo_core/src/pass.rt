@@ -1,16 +1,15 @@
 //! What the engine keeps of a pass.
 //!
-//! 1. The writes of the open transaction stand in two lists: one goes into the journal with a commit,
-//!    the other is that of all writes of the pass.
-//! 2. An open transaction has its place among the ended ones, so its end takes no memory.
+//! 1. The writes of the open transaction stand in one list, which goes into the journal with a commit.
+//! 2. What the ended ones have written is a history for proofs: it takes no memory, and nothing is done for it.
 
 ghost use Rattle.std.specs.Prelude.{◌≡◌, ◌<◌, [], ◌∷◌, None, IsSome, true, OnOk};
 ghost use Rattle.undo_chain.specs.declared.touched.Touched.TheVariants.{Never};
 ghost use Rattle.teseo_core.specs.Writing.{writing_since};
 ghost use Rattle.teseo_core.specs.Passes.{new_pass, with_begin, with_one_write, with_load, with_end, Notes};
 
-use crate::made::MadeWrites;
 use graph_model::{Begun, Cause, NoMemory, Refusal, RoomyWrites, TxnName, Write, Writes};
+use http_server::Log;
 use items::RoomyItems;
 use std::alloc::Global;
 use std::marker::Model;
@@ -39,8 +38,8 @@ impl Model for Sighted {
 /// The transactions of a pass with their writes, the latest of which may be open.
 #[derive(Drop)]
 pub struct Pass {
-    /// What it has written in all its transactions.
-    made: MadeWrites,
+    /// What each ended transaction has written, with its number.
+    made: Log<u32, Writes>,
     /// Whom its writes have met.
     sighted: Vec<Sighted>,
     /// None where no transaction is open.
@@ -56,14 +55,14 @@ pub struct Pass {
 }
 
 impl Model for Pass {
-    ghost use Rattle.std.specs.Prelude.{◌≡◌, ◌<◌, [], None, IfSome, IfNone, min};
+    ghost use Rattle.std.specs.Prelude.{◌≡◌, [], None, IfNone, map};
     ghost use Rattle.teseo_core.specs.Passes.{RoomyPass, made_with};
 
     ghost Value = { RoomyPass };
 
     ghost view = { λ p. record {
       state = record {
-        made = made_with p.start p.made.ended p.own.items;
+        made = made_with p.start (map (λ ended. ended.1) p.made.items) p.own.items;
         sighted = p.sighted.items;
         start = p.start;
         own = p.own.items;
@@ -71,12 +70,10 @@ impl Model for Pass {
         begun = p.begun;
         allowed = p.allowed;
       };
-      writes = min p.own.spare p.made.writes;
-      txns = p.made.txns;
+      writes = p.own.spare;
     } };
 
-    ghost invariant = { λ p. (p.made.own ≡ p.own.items) × IfNone p.start (p.own.items ≡ [])
-        × IfSome p.start (λ start. 0 < p.made.txns) };
+    ghost invariant = { λ p. IfNone p.start (p.own.items ≡ []) };
 }
 
 impl Pass {
@@ -85,7 +82,7 @@ impl Pass {
         ensures { result.state ≡ new_pass allowed }
     {
         Pass {
-            made: MadeWrites::new(alloc),
+            made: Log::new(),
             sighted: Vec::new(alloc),
             start: None,
             own: RoomyItems::new(alloc),
@@ -131,27 +128,17 @@ impl Pass {
         }
     }
 
-    /// Makes room for one more transaction.
-    pub fn reserve_txn(&mut self) -> Result<(), NoMemory>
-        ensures kept { self.new.state ≡ self.old.state }
-        ensures ok { OnOk result (0 < self.new.txns) }
-    {
-        self.made.reserve_txn()
-    }
-
     /// Makes room for one more write.
     pub fn reserve_write(&mut self) -> Result<(), NoMemory>
         ensures kept { self.new.state ≡ self.old.state }
         ensures ok { OnOk result (0 < self.new.writes) }
     {
-        self.own.reserve(1)?;
-        self.made.reserve_write()
+        self.own.reserve(1)
     }
 
     /// Begins a transaction.
     pub fn begin(&mut self, begun: Begun)
         requires closed { self.old.state.start ≡ None }
-        requires room { 0 < self.old.txns }
         ensures { self.new.state ≡ with_begin self.old.state begun.start begun.by.number }
     {
         self.start = Some(begun.start);
@@ -165,16 +152,15 @@ impl Pass {
         ensures { self.new.state ≡ with_one_write self.old.state write }
     {
         self.own.push_within(write);
-        self.made.note(write);
     }
 
     /// Notes all writes of the pass's first transaction, which has made none so far, and ends it. Takes no memory.
-    pub fn note_load(&mut self, load: Writes)
+    pub fn note_load(&mut self, load: &Writes)
         requires current { IsSome self.old.state.start }
         requires first { self.old.state.made ≡ [] ∷ [] }
-        ensures { self.new.state ≡ with_end (with_load self.old.state load) }
+        ensures { self.new.state ≡ with_end (with_load self.old.state load.now) }
     {
-        self.made.end_load(load);
+        self.made = self.made.and(&self.begun, load);
         self.start = None;
     }
 
@@ -209,9 +195,9 @@ impl Pass {
         ensures writes { result ≡ self.old.state.own }
         ensures ended { self.new.state ≡ with_end self.old.state }
     {
-        let own = replace(&mut self.own, RoomyItems::new(alloc));
-        self.made.end(own.len());
+        let own = replace(&mut self.own, RoomyItems::new(alloc)).into_items();
+        self.made = self.made.and(&self.begun, &own);
         self.start = None;
-        own.into_items()
+        own
     }
 }

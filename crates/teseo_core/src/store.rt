@@ -133,10 +133,8 @@ impl Core {
         ensures did { DidBegin self.old.core result self.new.core }
         ensures service { KeepsService self.old self.new }
     {
-        let pass = self.selected as usize;
-        self.passes[pass].reserve_txn()?;
         let begun = self.manager.open_txn(self.selected)?;
-        self.passes[pass].begin(begun);
+        self.passes[self.selected as usize].begin(begun);
         Ok(begun)
     }
 

@@ -1,4 +1,5 @@
-use Rattle.std.proofs.Common.{◌∙◌}
+use Rattle.std.proofs.Common.{◌∙◌, ℕ, List, map, ap}
+use Rattle.graph_model.specs.declared.write.Write.{Write}
 use Rattle.teseo_core.specs.Passes.{made_with}
 use Rattle.teseo_core.proofs.PassLemmas.{made_more}
 use Rattle.teseo_core.proofs.pass.Pass.note.Goals as goal
@@ -6,5 +7,6 @@ use Rattle.teseo_core.proofs.pass.Pass.note.Goals as goal
 pub returns : goal.returns
 returns c =
     let f = c.self.inside in
-    let made = (λ i. made_with f.start (c.note.ensures.ended i) (c.push_within.ensures.put i)) ∙ made_more f.start (rw (← c.self.view_is) at c.requires.current) f.made.ended f.own.items c.args.write in
+    let ended = map (λ (e : ℕ × List Write). e.1) f.made.items in
+    let made = ap (made_with f.start ended) c.push_within.ensures.put ∙ made_more f.start (rw (← c.self.view_is) at c.requires.current) ended f.own.items c.args.write in
     rw (← c.self.view_is) (λ i. record { made = made i; sighted = f.sighted.items; start = f.start; own = c.push_within.ensures.put i; filled = f.filled; begun = f.begun; allowed = f.allowed })

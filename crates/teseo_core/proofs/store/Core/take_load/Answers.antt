@@ -26,7 +26,7 @@ invariant_of-self c =
     let here = lent_state f.passes.items f.selected c.index.result.now c.self.invariant.chosen c.index.ensures in
     let last = lent_state f.passes.items f.selected c.index_mut.result.now c.self.invariant.chosen c.index_mut.ensures.value in
     let name = c.name_of-by.ensures ∙ (λ i. record { job = f.selected; number = (sym here i).begun }) in
-    let state = c.note_load.ensures ∙ (λ i. with_end (with_load (sym last i) (c.requires.copy i))) in
+    let state = c.note_load.ensures ∙ (λ i. with_end (with_load (sym last i) c.args.load)) in
     let journal = c.end_load.ensures.journal ∙ ap (λ (n : TxnName). journal_behind f.manager n c.args.load) name
     ∙ journal_loaded begun.0 begun.1 c.args.load core begun.3 f.manager f.rows c.self.invariant in
     let is = journal_core f.kind f.leaves f.manager f.passes.items f.selected f.served f.rows c.self.invariant c.note_load.new.self c.end_load.new.manager
@@ -43,7 +43,7 @@ returns c = rw (← c.self.view_is) (λ new is_new at.
     let here = lent_state f.passes.items f.selected c.index.result.now c.self.invariant.chosen c.index.ensures in
     let last = lent_state f.passes.items f.selected c.index_mut.result.now c.self.invariant.chosen c.index_mut.ensures.value in
     let name = c.name_of-by.ensures ∙ (λ i. record { job = f.selected; number = (sym here i).begun }) in
-    let state = c.note_load.ensures ∙ (λ i. with_end (with_load (sym last i) (c.requires.copy i))) in
+    let state = c.note_load.ensures ∙ (λ i. with_end (with_load (sym last i) c.args.load)) in
     let journal = c.end_load.ensures.journal ∙ ap (λ (n : TxnName). journal_behind f.manager n c.args.load) name
     ∙ journal_loaded begun.0 begun.1 c.args.load core begun.3 f.manager f.rows c.self.invariant in
     let is = journal_core f.kind f.leaves f.manager f.passes.items f.selected f.served f.rows c.self.invariant c.note_load.new.self c.end_load.new.manager
