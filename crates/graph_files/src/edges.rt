@@ -21,6 +21,7 @@ use crate::faultless::{
 };
 use crate::listings::read_rest;
 use crate::refusal::ReadRefusal;
+use crate::room::lines_of;
 use crate::weights::Weights;
 use graph_model::{Ids, Kind};
 use graphalytics_io::Edges;
@@ -45,7 +46,7 @@ pub fn read_edges(
     ensures fault { IfErr result (λ refusal. IsRefused
         (edges_of (record { ids = ids.now; kind = kind; weights = weights; limit = limit }) text.now) refusal) }
 {
-    let front = read_lines(alloc, text, weights)?;
+    let front = read_lines(alloc, text, weights, lines_of(text))?;
     let checks = checks_of(alloc, ids, kind, weights, limit)?;
     let is_new = are_new(alloc, &front, &checks)?;
     check(alloc, text, front, is_new, &checks)

@@ -16,6 +16,7 @@ use crate::checks::Checks;
 use crate::ends::{EveryId, read_edge};
 use crate::halves::read_halves;
 use crate::listings::EdgesSoFar;
+use crate::room::{lines_of, with_room};
 use crate::seconds::{PartedListings, parts_of};
 use crate::weights::Weights;
 use graphalytics_io::{Edge, Edges, cuts_for, field_lines};
@@ -44,21 +45,27 @@ pub(crate) fn read_front<R: Threads + Sync>(
     requires { AreReadable weights }
     ensures { IfOk result (λ front. IsFront (edge_of every_id weights) (field_lines text.now) front) }
 {
-    match read_halves(rt, alloc, text, weights, cuts_for(rt))? {
+    let lines = lines_of(text);
+    match read_halves(rt, alloc, text, weights, cuts_for(rt), lines)? {
         Some(edges) => Ok(Front {
             edges,
             is_whole: true,
         }),
-        None => read_lines(alloc, text, weights),
+        None => read_lines(alloc, text, weights, lines),
     }
 }
 
-/// Reads each line by itself, up to the first that has a fault.
-pub(crate) fn read_lines(alloc: Global, text: &[u8], weights: Weights) -> Result<Front, NoMemory>
+/// Reads each line by itself, up to the first that has a fault. Room is made for the edges of so many lines.
+pub(crate) fn read_lines(
+    alloc: Global,
+    text: &[u8],
+    weights: Weights,
+    room: usize,
+) -> Result<Front, NoMemory>
     requires { AreReadable weights }
     ensures { IfOk result (λ front. IsFront (edge_of every_id weights) (field_lines text.now) front) }
 {
-    let mut edges = Edges::new(alloc);
+    let mut edges = with_room(alloc, room);
     let mut lines = field_lines(text);
     'lines: while let Some(line) = lines.next() {
         let Ok(edge) = read_edge(line.fields, &EveryId, weights) else {

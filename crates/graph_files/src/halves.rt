@@ -1,7 +1,8 @@
 //! The edges of a text, read by several threads.
 //!
 //! 1. A text is cut in two after a line feed, so that no line is cut, and each half again.
-//! 2. Where a line has a fault by itself, nothing is said of the text. It is then read from its begin by one thread, so
+//! 2. The list of the first lines has room for the edges of all, so that those of later ones are copied and these aren't.
+//! 3. Where a line has a fault by itself, nothing is said of the text. It is then read from its begin by one thread, so
 //!    the first fault is the first.
 
 ghost use Rattle.std.specs.Prelude.{◌≡◌, ◌<◌, ◌++◌, ℕ, List, IfOk, IfSome};
@@ -10,6 +11,7 @@ ghost use Rattle.graph_files.specs.Weights.{AreReadable};
 ghost use Rattle.graph_files.specs.Halves.{IsCut, IsReadAs};
 
 use crate::faultless::read_lines;
+use crate::room::lines_of;
 use crate::weights::Weights;
 use graphalytics_io::Edges;
 use items::NoMemory;
@@ -20,7 +22,7 @@ use std::thread::{Threads, join};
 /// A shorter text isn't worth a thread.
 const LEAST_BYTES: usize = 65536;
 
-/// The edges of a text, by themselves, if no line has a fault by itself.
+/// The edges of a text, by themselves, if no line has a fault by itself, in a list with room for so many.
 #[cycle(halves)]
 pub(crate) fn read_halves<R: Threads + Sync>(
     rt: &R,
@@ -28,16 +30,17 @@ pub(crate) fn read_halves<R: Threads + Sync>(
     text: &[u8],
     weights: Weights,
     cuts: u32,
+    room: usize,
 ) -> Result<Option<Edges>, NoMemory>
     requires { AreReadable weights }
     ensures { IfOk result (IsReadAs weights text.now) }
 {
     if cuts == 0 || text.len() < LEAST_BYTES {
-        return read_alone(alloc, text, weights);
+        return read_alone(alloc, text, weights, room);
     }
     match cut(text) {
-        Some((front, behind)) => read_both(rt, alloc, front, behind, weights, cuts),
-        None => read_alone(alloc, text, weights),
+        Some((front, behind)) => read_both(rt, alloc, front, behind, weights, cuts, room),
+        None => read_alone(alloc, text, weights, room),
     }
 }
 
@@ -50,6 +53,7 @@ fn read_both<R: Threads + Sync>(
     behind: &[u8],
     weights: Weights,
     cuts: u32,
+    room: usize,
 ) -> Result<Option<Edges>, NoMemory>
     requires readable { AreReadable weights }
     requires cuts { 0 < cuts }
@@ -60,11 +64,11 @@ fn read_both<R: Threads + Sync>(
         || -> Result<Option<Edges>, NoMemory>
             requires { IsSync R.row × (0 < cuts) × AreReadable weights }
             ensures { IfOk result (IsReadAs weights front.entry.now) }
-        { read_halves(rt, alloc, front, weights, cuts - 1) },
+        { read_halves(rt, alloc, front, weights, cuts - 1, room) },
         || -> Result<Option<Edges>, NoMemory>
             requires { IsSync R.row × (0 < cuts) × AreReadable weights }
             ensures { IfOk result (IsReadAs weights behind.entry.now) }
-        { read_halves(rt, alloc, behind, weights, cuts - 1) },
+        { read_halves(rt, alloc, behind, weights, cuts - 1, lines_of(behind)) },
     );
     let (first, second) = (first?, second?);
     match (first, second) {
@@ -83,11 +87,16 @@ fn joined(first: Edges, second: &Edges) -> Result<Edges, NoMemory>
 }
 
 /// The edges of a text, read by one thread.
-fn read_alone(alloc: Global, text: &[u8], weights: Weights) -> Result<Option<Edges>, NoMemory>
+fn read_alone(
+    alloc: Global,
+    text: &[u8],
+    weights: Weights,
+    room: usize,
+) -> Result<Option<Edges>, NoMemory>
     requires { AreReadable weights }
     ensures { IfOk result (IsReadAs weights text.now) }
 {
-    let front = read_lines(alloc, text, weights)?;
+    let front = read_lines(alloc, text, weights, room)?;
     if front.is_whole {
         Ok(Some(front.edges))
     } else {

@@ -14,6 +14,7 @@ mod halves;
 mod laws;
 mod listings;
 mod refusal;
+mod room;
 mod seconds;
 mod vertices;
 mod weights;

@@ -11,6 +11,7 @@ ghost use Rattle.graph_files.specs.VertexFiles.{id_of, line_id, vertex_of, verti
 ghost use Rattle.graph_files.specs.Kept.{IsSetOf};
 
 use crate::refusal::{Fault, ReadRefusal, What};
+use crate::room::{lines_of, with_room};
 use graph_model::{Ids, MAX_ID};
 use graphalytics_io::{Fields, NumberFault, field_lines, read_number};
 use id_places::are_distinct;
@@ -34,7 +35,7 @@ pub fn read_vertices(alloc: Global, text: &[u8], limit: u64) -> Result<Ids, Read
 fn read_unrepeated(alloc: Global, text: &[u8], limit: u64) -> Result<Option<Ids>, NoMemory>
     ensures { IfOk result (λ found. IfSome found (λ ids. vertices_of limit text.now ≡ Ok ids)) }
 {
-    let mut ids = Ids::new(alloc);
+    let mut ids = with_room(alloc, lines_of(text));
     let mut lines = field_lines(text);
     'lines: while let Some(line) = lines.next() {
         let Ok(id) = read_line_id(line.fields) else {
