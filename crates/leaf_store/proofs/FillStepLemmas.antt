@@ -1,19 +1,18 @@
 -- One leaf more is laid with rows.
-use Rattle.std.proofs.Common.{◌≡◌, ℕ, ◌+◌, ◌-◌, ◌<◌, ◌≤◌, List, [], ◌∷◌, ◌++◌, Option, Some, length, map, take, drop, set, min, refl, sym, ◌∙◌, ap, ap₂, subst, arith, length-append, append_assoc}
+use Rattle.std.proofs.Common.{◌≡◌, ℕ, ◌+◌, ◌-◌, ◌<◌, ◌≤◌, List, [], ◌∷◌, ◌++◌, Option, Some, length, map, take, drop, set, min, refl, sym, ◌∙◌, ap, ap₂, subst, arith, length-append}
 use Rattle.std.specs.Prelude.{true, false, slice_get}
 use Rattle.std.specs.List.{AllByRecursion}
 use Rattle.std.specs.declared.boxed.Box.{Box}
 use Rattle.std.specs.declared.alloc.Global.{Global}
 use Rattle.std.proofs.Math.ListN.{length-set}
-use Rattle.std.proofs.lemmas.List.{append-nil, length-map, map-append, take-append-drop, length-take-le}
+use Rattle.std.proofs.lemmas.List.{append-nil, length-map, map-append}
 use Rattle.graph_model.specs.declared.limits.TheConstants.{SPLIT_ROWS}
 use Rattle.graph_model.specs.declared.row.Key.{Key}
 use Rattle.graph_model.specs.declared.row.Row.{Row}
 use Rattle.graph_model.specs.Rows.{is_below, first_key, end_key}
-use Rattle.graph_model.proofs.KeyLemmas.{below_chain, between_parts, upto_chain}
+use Rattle.graph_model.proofs.KeyLemmas.{below_chain, upto_chain}
 use Rattle.graph_model.proofs.PlaceLemmas.{some_eq}
-use Rattle.std.proofs.Math.Seq.{take-append_seam, drop-append_seam}
-use Rattle.gap_segment.specs.Fenced.{AreAbove, AreSorted, AreWithin, first_key_or}
+use Rattle.gap_segment.specs.Fenced.{first_key_or}
 use Rattle.leaf_table.specs.VersionSegment.Rows.{VersionedRows, settled_row, settled_rows}
 use Rattle.leaf_table.specs.LeafArrayDeclared.leaf.Leaf.{Leaf}
 use Rattle.leaf_table.specs.LeafArray.Leaves.{IsLeaf}

@@ -21,11 +21,12 @@ use leaf_index::LeafIndex;
 use leaf_queue::LeafQueue;
 use leaf_table::below::Leaf;
 use leaf_table::{
-    FULL_LEAF, begin_of, cuts_of, empty_table, leaf_from, leaves_from, put_leaf, settled_leaf,
+    FULL_LEAF, begin_of, cuts_of, empty_table, leaf_or_new, leaves_from, put_leaf, settled_leaf,
 };
 use std::alloc::Global;
 use std::marker::Sync;
 use std::thread::Threads;
+use txn_manager::RoomRefusal;
 
 /// Takes the memory of the leaf at a place, if it was made.
 fn take_at(made: &mut Vec<Option<Box<Leaf>>>, place: usize) -> Option<Box<Leaf>>
@@ -62,10 +63,7 @@ fn fill_next(
         let leaves = index.leaves();
         return Err(RoomRefusal::Full { leaves });
     };
-    let memory = match made {
-        Some(memory) => memory,
-        None => leaf_from(alloc, rows, at)?,
-    };
+    let memory = leaf_or_new(made, alloc, rows, at)?;
     let (_, rest) = rows.split_at(at);
     let (here, _) = rest.split_at(rest.len().min(FULL_LEAF));
     let low = begin_of(here, Key::END);

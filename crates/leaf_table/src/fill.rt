@@ -71,7 +71,7 @@ pub fn settled_leaf(alloc: Global, low: Key, high: Key, rows: &[Row]) -> Result<
 }
 
 /// Memory for a leaf with the rows from a place on.
-pub fn leaf_from(alloc: Global, rows: &[Row], at: usize) -> Result<Box<Leaf>, NoMemory>
+fn leaf_from(alloc: Global, rows: &[Row], at: usize) -> Result<Box<Leaf>, NoMemory>
     requires sorted { AreSorted rows.now }
     requires within { AreWithin first_key end_key rows.now }
     requires more { at < length rows.now }
@@ -82,6 +82,25 @@ pub fn leaf_from(alloc: Global, rows: &[Row], at: usize) -> Result<Box<Leaf>, No
     let low = begin_of(here, Key::END);
     let high = begin_of(behind, Key::END);
     settled_leaf(alloc, low, high, here)
+}
+
+/// The memory that was made for the leaf with the rows from a place on, or new memory.
+pub fn leaf_or_new(
+    made: Option<Box<Leaf>>,
+    alloc: Global,
+    rows: &[Row],
+    at: usize,
+) -> Result<Box<Leaf>, NoMemory>
+    requires made { IfSome made (IsLeafFrom rows.now at) }
+    requires sorted { AreSorted rows.now }
+    requires within { AreWithin first_key end_key rows.now }
+    requires more { at < length rows.now }
+    ensures { IfOk result (IsLeafFrom rows.now at) }
+{
+    match made {
+        Some(memory) => Ok(memory),
+        None => leaf_from(alloc, rows, at),
+    }
 }
 
 /// Memory for the leaves after the first, no more than so many, made by several threads. None where there was no memory.

@@ -1,4 +1,5 @@
-//! The memory of leaves by their numbers: what their segments say of themselves, and what is read of them ahead.
+//! The memory of leaves by their numbers: what their segments say of themselves, what is read of them ahead, and the
+//! leaves of a load.
 //!
 //! 1. A leaf has memory or none. Where a cell stands is a leaf's number and a segment's.
 //! 2. Reads ahead change no answer.
@@ -13,7 +14,7 @@ mod place;
 mod table;
 
 pub use ahead::{count_with_memory, fingers_at, sum_ahead, sum_leaf_ahead};
-pub use fill::{FULL_LEAF, begin_of, leaf_from, leaves_from, settled_leaf};
+pub use fill::{FULL_LEAF, begin_of, leaf_or_new, leaves_from, settled_leaf};
 pub use finger::Finger;
 pub use look::{counts_of, cuts_of};
 pub use place::Place;

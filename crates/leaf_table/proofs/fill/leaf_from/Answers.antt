@@ -1,4 +1,4 @@
-use Rattle.std.proofs.Common.{◌≡◌, ◌++◌, ◌∷◌, ◌≤◌, drop, length, sym, ◌∙◌, ap₂, arith}
+use Rattle.std.proofs.Common.{◌++◌, ◌≤◌, length, sym, ◌∙◌, ap₂, arith}
 use Rattle.std.proofs.lemmas.List.{take-append-drop}
 use Rattle.graph_model.specs.Rows.{end_key}
 use Rattle.graph_model.proofs.KeyLemmas.{below_flip}

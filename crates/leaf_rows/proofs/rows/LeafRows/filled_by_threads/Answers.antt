@@ -3,7 +3,7 @@ use Rattle.leaf_rows.proofs.FillLemmas.{load_rises, filled_loads, filled_unstamp
 use Rattle.leaf_rows.proofs.rows.LeafRows.filled_by_threads.Goals as goal
 
 pub filled_by_threads-requires-clause-rising : goal.filled_by_threads-requires-clause-rising
-filled_by_threads-requires-clause-rising g c =
+filled_by_threads-requires-clause-rising g c κs within =
     load_rises c.args.kind c.args.load.now c.args.sorted.now c.requires.adds c.requires.within c.requires.allowed c.requires.sorted.same c.requires.sorted.sorted
 
 pub returns-in_err-store-clause-full : goal.returns-in_err-store-clause-full
