@@ -1,8 +1,13 @@
 -- Rows without records: those of a load, and those of a store that is settled.
-use Rattle.std.specs.Prelude.{◌≡◌, ℕ, ◌*◌, ◌≤◌, []}
-use Rattle.graph_model.specs.declared.limits.TheConstants.{SPLIT_ROWS}
+use Rattle.std.specs.Prelude.{◌≡◌, ℕ, ◌*◌, ◌≤◌, List, []}
+use Rattle.std.specs.List.{AllByRecursion}
+use Rattle.graph_model.specs.declared.limits.TheConstants.{MAX_LEAVES, SPLIT_ROWS}
 use Rattle.graph_model.specs.declared.row.Key.{Key}
-use Rattle.graph_model.specs.Graph.{Graph}
+use Rattle.graph_model.specs.declared.write.Kind.{Kind}
+use Rattle.graph_model.specs.declared.write.Write.{Write}
+use Rattle.graph_model.specs.Graph.{Graph, empty_graph}
+use Rattle.graph_model.specs.Loading.{IsAdd}
+use Rattle.graph_model.specs.Refused.{AllAllowed, IsWithinLimits}
 use Rattle.graph_model.specs.Rows.{value_at}
 use Rattle.store_model.specs.declared.versions.Versions.{Versions}
 use Rattle.store_model.specs.Versions.{no_versions}
@@ -31,6 +36,14 @@ pub record AreLoaded (leaves : ℕ) (g : Graph) (most : ℕ) (s : Leaves) : Type
   pub limit : s.limit ≡ leaves
   pub weight : weight s ≤ most
   pub retired : s.retired ≡ []
+
+-- writes that the empty graph allows one after the other, for a store with so many leaves
+pub record IsLegalLoad (leaves : ℕ) (kind : Kind) (load : List Write) : Type 0 where
+  pub some : 1 ≤ leaves
+  pub few : leaves ≤ MAX_LEAVES
+  pub adds : AllByRecursion IsAdd load
+  pub within : AllByRecursion IsWithinLimits load
+  pub allowed : AllAllowed kind empty_graph load
 
 -- why no store has the rows of a load
 abbrev pub IsLoadTooLarge : ℕ → ℕ → RoomRefusal → Type 0

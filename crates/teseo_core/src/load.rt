@@ -3,16 +3,13 @@
 //! 1. Rows are sorted and leaves filled with them, where write by write each would cost two searches in memory that no
 //!    cache has.
 
-ghost use Rattle.std.specs.Prelude.{◌≡◌, ℕ, ◌≤◌, [], IsSome, IfOk, IfErr, OnOk, OnErr};
-ghost use Rattle.std.specs.List.{AllByRecursion};
-ghost use Rattle.graph_model.specs.declared.limits.TheConstants.{MAX_LEAVES};
+ghost use Rattle.std.specs.Prelude.{◌≡◌, ℕ, [], IsSome, IfOk, IfErr, OnOk, OnErr};
 ghost use Rattle.graph_model.specs.Graph.{apply_all, empty_graph};
 ghost use Rattle.graph_model.specs.Inserted.{inserted};
-ghost use Rattle.graph_model.specs.Loading.{IsNew, IsLoad, IsAdd, IsLoadRefusal, loaded};
+ghost use Rattle.graph_model.specs.Loading.{IsNew, IsLoad, IsLoadRefusal, loaded};
 ghost use Rattle.graph_model.specs.OwnerCalls.{Core as OwnerCore};
-ghost use Rattle.graph_model.specs.Refused.{AllAllowed, IsWithinLimits};
 ghost use Rattle.txn_manager.specs.Manager.{ended, open_start};
-ghost use Rattle.leaf_rows.specs.Loaded.{AreLoaded, IsLoadTooLarge};
+ghost use Rattle.leaf_rows.specs.Loaded.{AreLoaded, IsLegalLoad, IsLoadTooLarge};
 ghost use Rattle.teseo_core.specs.Loads.{HasBegunLoad, IsTooMuch, journal_behind, loading};
 
 use crate::store::{Core, name_of};
@@ -107,11 +104,7 @@ fn load_rows(
     kind: Kind,
     load: &[Write],
 ) -> Result<LeafRows, LoadRefusal>
-    requires some { 1 ≤ leaves }
-    requires few { leaves ≤ MAX_LEAVES }
-    requires adds { AllByRecursion IsAdd load.now }
-    requires within { AllByRecursion IsWithinLimits load.now }
-    requires allowed { AllAllowed kind empty_graph load.now }
+    requires { IsLegalLoad leaves kind load.now }
     ensures ok { IfOk result (λ rows.
         AreLoaded leaves (apply_all kind empty_graph load.now) (inserted kind load.now) rows) }
     ensures refused { IfErr result (λ refusal. IsTooMuch leaves (inserted kind load.now) refusal) }
@@ -131,11 +124,7 @@ fn rows_by_threads<R: Threads + Sync>(
     kind: Kind,
     load: &[Write],
 ) -> Result<LeafRows, LoadRefusal>
-    requires some { 1 ≤ leaves }
-    requires few { leaves ≤ MAX_LEAVES }
-    requires adds { AllByRecursion IsAdd load.now }
-    requires within { AllByRecursion IsWithinLimits load.now }
-    requires allowed { AllAllowed kind empty_graph load.now }
+    requires { IsLegalLoad leaves kind load.now }
     ensures ok { IfOk result (λ rows.
         AreLoaded leaves (apply_all kind empty_graph load.now) (inserted kind load.now) rows) }
     ensures refused { IfErr result (λ refusal. IsTooMuch leaves (inserted kind load.now) refusal) }

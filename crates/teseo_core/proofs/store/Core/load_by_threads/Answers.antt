@@ -1,9 +1,9 @@
-use Rattle.std.proofs.Common.{subst, List}
+use Rattle.std.proofs.Common.{sym, subst, List}
 use Rattle.graph_model.specs.declared.write.Write.{Write}
 use Rattle.graph_model.specs.Graph.{apply_all, empty_graph}
 use Rattle.graph_model.specs.Inserted.{inserted}
 use Rattle.graph_model.specs.Loading.{IsLoadRefusal}
-use Rattle.leaf_rows.specs.Loaded.{AreLoaded}
+use Rattle.leaf_rows.specs.Loaded.{AreLoaded, IsLegalLoad}
 use Rattle.teseo_core.specs.Keeping.{core_of}
 use Rattle.teseo_core.specs.Loads.{IsTooMuch}
 use Rattle.teseo_core.proofs.LoadLemmas.{err_that, too_much}
@@ -21,3 +21,15 @@ pub load_filled-requires-clause-rows : goal.load_filled-requires-clause-rows
 load_filled-requires-clause-rows g c = rw (← c.self.view_is) (
     let f = c.self.inside in
     subst (λ (ws : List Write). AreLoaded f.leaves (apply_all f.kind empty_graph ws) (inserted f.kind ws) c.in_ok-rows.rows) c.as_slice.ensures c.in_ok-rows.ensures.ok)
+
+pub rows_by_threads-requires : goal.rows_by_threads-requires
+rows_by_threads-requires g c κs within =
+    let f = c.self.inside in
+    let load = rw (← c.self.view_is) at c.requires.load in
+    subst (IsLegalLoad f.leaves f.kind) (sym c.as_slice.ensures) (record {
+      some = c.self.invariant.some;
+      few = c.self.invariant.few;
+      adds = load.adds;
+      within = load.within;
+      allowed = load.allowed;
+    })
