@@ -36,12 +36,6 @@ set_same (x ∷ states) (suc i) s lt is = ap (λ ys. x ∷ ys) (set_same states 
 pub states_kept : (passes : List RoomyPass) (i : ℕ) (p : RoomyPass) → i < length (states_of passes) → unwrap_or (slice_get (states_of passes) i) no_pass ≡ p.state → states_of (slice_set passes i p) ≡ states_of passes
 states_kept passes i p lt is = states_set passes i p ∙ set_same (states_of passes) i p.state lt is
 
--- the place that is set last counts
-pub set_twice : {X : Type 0} (xs : List X) (i : ℕ) (a b : X) → slice_set (slice_set xs i a) i b ≡ slice_set xs i b
-set_twice [] i a b = refl
-set_twice (x ∷ xs) zero a b = refl
-set_twice (x ∷ xs) (suc i) a b = ap (λ ys. x ∷ ys) (set_twice xs i a b)
-
 -- a start that is there
 pub start_of : (x : Option ℕ) → IsSome x → (n : ℕ) × (x ≡ Some n)
 start_of None is = cc
@@ -54,10 +48,6 @@ some_nat x y e = cc
 pub result_err : {T E : Type 0} (r : Result T E) (P : E → Type 0) (Q : Result T E → Type 0) → IsErrAnd r P → ((e : E) → P e → Q (Err e)) → Q r
 result_err (Ok x) P Q is each = absurd is
 result_err (Err e) P Q is each = each e is
-
--- a begin that finds no memory
-pub begins_no_memory : (old new : Core) (r : Result Begun BeginRefusal) → IsErrAnd r (λ e. e ≡ NoMemory) → new ≡ old → BeginsHere old r new
-begins_no_memory old new r is same = result_err r (λ e. e ≡ NoMemory) (λ r. BeginsHere old r new) is (λ e at. subst (λ x. BeginsHere old (Err x) new) (sym at) same)
 
 -- ---- an engine by its fields
 
@@ -91,19 +81,17 @@ module _ (kind : Kind) (leaves : ℕ) (m : Manager) (passes : List RoomyPass) (s
     few = is.few;
   })
 
+  -- no pass is put in place
+  pub roomy_core : (m' : Manager) → m'.journal ≡ m.journal → core_of kind leaves m' passes selected served ≡ core
+  roomy_core m' same = λ i. record { kind = kind; leaves = leaves; journal = same i; passes = states_of passes; selected = selected; served = served }
+
+  -- nothing has changed but the manager's room
+  pub kept_roomy : (m' : Manager) → m' ≡ record m { spare = m'.spare } → IsKept (core_of kind leaves m' passes selected served) m' rows
+  kept_roomy m' same = subst (λ (c : Core). IsKept c m' rows) (sym (roomy_core m' (ap (λ (n : Manager). n.journal) same))) (kept_spare m' same)
+
   -- nothing has changed but room
   pub kept_back : (p : RoomyPass) (m' : Manager) → m' ≡ record m { spare = m'.spare } → p.state ≡ current core → IsKept (core_of kind leaves m' (slice_set passes selected p) selected served) m' rows
   kept_back p m' same state = subst (λ (c : Core). IsKept c m' rows) (sym (kept_core p m' (ap (λ (n : Manager). n.journal) same) state)) (kept_spare m' same)
-
-  -- a pass is lent twice, and is in the same state the second time
-  pub lent_again : (p q : RoomyPass) → p.state ≡ current core → q ≡ get_or (slice_set passes selected p) selected q → q.state ≡ current core
-  lent_again p q same lent =
-      let kept = states_kept passes selected p is.chosen (sym same) in
-      let lt : selected < length (states_of (slice_set passes selected p)) = subst (λ (ss : List PassState). selected < length ss) (sym kept) is.chosen in
-      sym (lent_state (slice_set passes selected p) selected q lt lent) ∙ ap (λ ss. unwrap_or (slice_get ss selected) no_pass) kept
-
-  pub twice_core : (p q : RoomyPass) (m' : Manager) → m'.journal ≡ m.journal → core_of kind leaves m' (slice_set (slice_set passes selected p) selected q) selected served ≡ with_current core q.state
-  twice_core p q m' same = (λ i. record { kind = kind; leaves = leaves; journal = m'.journal; passes = states_of (set_twice passes selected p q i); selected = selected; served = served }) ∙ put_core q m' same
 
   -- ---- begin
 

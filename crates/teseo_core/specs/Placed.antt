@@ -1,12 +1,10 @@
 -- How the rows of a write find their places, and that it is full exactly where they find none.
 use Rattle.std.specs.Prelude.{◌≡◌, ℕ, ◌+◌, ◌≤◌, not, count_by, Result, Ok, Err}
-use Rattle.graph_model.specs.declared.row.Key.{Key}
-use Rattle.graph_model.specs.declared.journal.TxnName.{TxnName}
 use Rattle.graph_model.specs.declared.refusal.Refusal.{Refusal}
 use Rattle.graph_model.specs.declared.refusal.Refusal.TheVariants as refusals
 use Rattle.graph_model.specs.declared.write.Write.{Write}
 use Rattle.txn_manager.specs.declared.config.RoomRefusal.TheVariants as room_refusals
-use Rattle.leaf_rows.specs.LeafStore.Leaves.{Leaves, contents_of, has_row, weight}
+use Rattle.leaf_rows.specs.LeafStore.Leaves.{Leaves, has_row, weight}
 use Rattle.leaf_rows.specs.RowWritesDeclared.written.WrittenRows.{WrittenRows}
 use Rattle.leaf_rows.specs.Laying.{HaveRoom, IsNoPlace, IsSpent}
 use Rattle.leaf_rows.specs.Placing.{FindsPlaces}

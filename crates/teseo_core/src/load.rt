@@ -3,13 +3,13 @@
 //! 1. Rows are sorted and leaves filled with them, where write by write each would cost two searches in memory that no
 //!    cache has.
 
-ghost use Rattle.std.specs.Prelude.{◌≡◌, ℕ, [], IsSome, IfOk, IfErr, OnOk, OnErr};
+ghost use Rattle.std.specs.Prelude.{◌≡◌, [], IsSome, IfOk, IfErr, OnOk, OnErr};
 ghost use Rattle.graph_model.specs.Graph.{apply_all, empty_graph};
 ghost use Rattle.graph_model.specs.Inserted.{inserted};
 ghost use Rattle.graph_model.specs.Loading.{IsNew, IsLoad, IsLoadRefusal, loaded};
 ghost use Rattle.graph_model.specs.OwnerCalls.{Core as OwnerCore};
 ghost use Rattle.txn_manager.specs.Manager.{ended, open_start};
-ghost use Rattle.leaf_rows.specs.Loaded.{AreLoaded, IsLegalLoad, IsLoadTooLarge};
+ghost use Rattle.leaf_rows.specs.Loaded.{AreLoaded, IsLegalLoad};
 ghost use Rattle.teseo_core.specs.Loads.{HasBegunLoad, IsTooMuch, journal_behind, loading};
 
 use crate::store::{Core, name_of};
@@ -112,7 +112,8 @@ fn load_rows(
     let sorted = sorted_rows(alloc, kind, load)?;
     match LeafRows::filled(alloc, leaves, kind, load, sorted.as_slice()) {
         Ok(rows) => Ok(rows),
-        Err(refusal) => Err(load_refusal(refusal)),
+        Err(RoomRefusal::Full { leaves }) => Err(LoadRefusal::Full { leaves }),
+        Err(RoomRefusal::NoMemory) => Err(LoadRefusal::NoMemory),
     }
 }
 
@@ -124,7 +125,7 @@ fn rows_by_threads<R: Threads + Sync>(
     kind: Kind,
     load: &[Write],
 ) -> Result<LeafRows, LoadRefusal>
-    requires { IsLegalLoad leaves kind load.now }
+    requires legal { IsLegalLoad leaves kind load.now }
     ensures ok { IfOk result (λ rows.
         AreLoaded leaves (apply_all kind empty_graph load.now) (inserted kind load.now) rows) }
     ensures refused { IfErr result (λ refusal. IsTooMuch leaves (inserted kind load.now) refusal) }
@@ -132,16 +133,7 @@ fn rows_by_threads<R: Threads + Sync>(
     let sorted = sorted_by_threads(rt, alloc, kind, load)?;
     match LeafRows::filled_by_threads(rt, alloc, leaves, kind, load, sorted.as_slice()) {
         Ok(rows) => Ok(rows),
-        Err(refusal) => Err(load_refusal(refusal)),
-    }
-}
-
-/// Why there is no room for a load.
-fn load_refusal(refusal: RoomRefusal) -> LoadRefusal
-    ensures { (leaves most : ℕ) → IsLoadTooLarge leaves most refusal → IsTooMuch leaves most result }
-{
-    match refusal {
-        RoomRefusal::Full { leaves } => LoadRefusal::Full { leaves },
-        RoomRefusal::NoMemory => LoadRefusal::NoMemory,
+        Err(RoomRefusal::Full { leaves }) => Err(LoadRefusal::Full { leaves }),
+        Err(RoomRefusal::NoMemory) => Err(LoadRefusal::NoMemory),
     }
 }

@@ -138,7 +138,7 @@ impl Pass {
 
     /// Begins a transaction.
     pub fn begin(&mut self, begun: Begun)
-        requires closed { self.old.state.start ≡ None }
+        requires { self.old.state.start ≡ None }
         ensures { self.new.state ≡ with_begin self.old.state begun.start begun.by.number }
     {
         self.start = Some(begun.start);

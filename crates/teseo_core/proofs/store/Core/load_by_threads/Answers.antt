@@ -22,8 +22,8 @@ load_filled-requires-clause-rows g c = rw (← c.self.view_is) (
     let f = c.self.inside in
     subst (λ (ws : List Write). AreLoaded f.leaves (apply_all f.kind empty_graph ws) (inserted f.kind ws) c.in_ok-rows.rows) c.as_slice.ensures c.in_ok-rows.ensures.ok)
 
-pub rows_by_threads-requires : goal.rows_by_threads-requires
-rows_by_threads-requires g c κs within =
+pub rows_by_threads-requires-clause-legal : goal.rows_by_threads-requires-clause-legal
+rows_by_threads-requires-clause-legal g c κs within =
     let f = c.self.inside in
     let load = rw (← c.self.view_is) at c.requires.load in
     subst (IsLegalLoad f.leaves f.kind) (sym c.as_slice.ensures) (record {

@@ -7,5 +7,4 @@ use Rattle.teseo_core.proofs.store.Core.load_filled.Goals as goal
 
 pub take_load-requires-clause-rows : goal.take_load-requires-clause-rows
 take_load-requires-clause-rows c =
-    let begun = rw (← c.self.view_is) at c.in-Ok.ensures.did.here.2 in
-    subst (λ (core : Core). AreLoaded core.leaves (apply_all core.kind empty_graph c.args.load) (inserted core.kind c.args.load) c.args.rows) (sym begun) (rw (← c.self.view_is) at c.requires.rows)
+    subst (λ (core : Core). AreLoaded core.leaves (apply_all core.kind empty_graph c.args.load) (inserted core.kind c.args.load) c.args.rows) (sym c.in-Ok.ensures.did.here.2) c.requires.rows
