@@ -115,7 +115,7 @@ pub(crate) fn are_new_by_threads<R: Threads + Sync>(
         return Ok(false);
     }
     match numbers_by_threads(rt, alloc, edges, &checks.known, checks.kind)? {
-        Some(numbers) => Ok(are_distinct_by_threads(rt, numbers)),
+        Some(numbers) => are_distinct_by_threads(rt, alloc, numbers.as_slice()),
         None => Ok(false),
     }
 }

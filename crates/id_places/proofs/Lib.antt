@@ -1,3 +1,4 @@
 pub mod KnownLemmas
 pub mod DistinctLemmas
+pub mod WithinLemmas
 pub mod NumberLemmas

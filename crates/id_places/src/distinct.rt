@@ -2,15 +2,21 @@
 //!
 //! 1. Most files have their ids in order, so it is first looked whether the numbers rise as they stand, which needs no
 //!    sorting.
-//! 2. Numbers of edges stand in no order, and there are many: they are sorted by several threads.
+//! 2. Numbers of edges stand in no order, and there are many: several threads sort those of a range each.
 
-ghost use Rattle.std.specs.Prelude.{◌==◌, ℕ};
+ghost use Rattle.std.specs.Prelude.{◌==◌, ℕ, IfOk};
 ghost use Rattle.std.specs.Bool.{OnTrue};
 ghost use Rattle.std.specs.List.{IsDistinct};
 ghost use Rattle.std.specs.List.Sorted.{IsStrictlyIncreasing};
 
-use rayon::prelude::*;
+use crate::ranges::differ;
+use graphalytics_io::cuts_for;
+use items::NoMemory;
+use std::alloc::Global;
 use std::thread::Threads;
+
+/// Fewer numbers aren't worth a thread.
+const LEAST_NUMBERS: usize = 65536;
 
 /// Whether no number stands twice. Sorts them, unless they rise as they stand.
 pub fn are_distinct(numbers: Vec<u64>) -> bool
@@ -24,23 +30,23 @@ pub fn are_distinct(numbers: Vec<u64>) -> bool
     rises(numbers.as_slice())
 }
 
-/// The same, where several threads sort them.
-pub fn are_distinct_by_threads<R: Threads + Sync>(rt: &R, numbers: Vec<u64>) -> bool
-    ensures { OnTrue result (IsDistinct (λ (x y : ℕ). x == y) numbers.items) }
+/// The same, where several threads share the numbers out by their size.
+pub fn are_distinct_by_threads<R: Threads + Sync>(
+    rt: &R,
+    alloc: Global,
+    numbers: &[u64],
+) -> Result<bool, NoMemory>
+    ensures { IfOk result (λ distinct. OnTrue distinct (IsDistinct (λ (x y : ℕ). x == y) numbers.now)) }
 {
-    let mut numbers = numbers;
-    if rises(numbers.as_slice()) {
-        return true;
+    if rises(numbers) {
+        return Ok(true);
     }
-    rises_sorted(rt, numbers.as_mut_slice())
-}
-
-/// Whether each number is below the next, once several threads have sorted them.
-fn rises_sorted<R: Threads + Sync>(rt: &R, numbers: &mut [u64]) -> bool
-    ensures { OnTrue result (IsDistinct (λ (x y : ℕ). x == y) numbers.old) }
-{
-    par_sort_unstable(rt, numbers);
-    rises(numbers)
+    let cuts = if numbers.len() < LEAST_NUMBERS {
+        0
+    } else {
+        cuts_for(rt).saturating_sub(1)
+    };
+    differ(rt, alloc, numbers, 0, u64::MAX, cuts)
 }
 
 /// Whether each number is below the next.

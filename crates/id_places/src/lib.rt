@@ -7,6 +7,7 @@
 mod distinct;
 mod id_table;
 mod numbers;
+mod ranges;
 mod slots;
 
 pub use distinct::{are_distinct, are_distinct_by_threads};
