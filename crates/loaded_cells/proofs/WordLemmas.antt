@@ -31,6 +31,12 @@ zeros_zero zero i = refl
 zeros_zero (suc n) zero = refl
 zeros_zero (suc n) (suc i) = zeros_zero n i
 
+-- fewer zeros of some
+pub fewer_zeros : (n k : ℕ) → k ≤ n → take k (zeros n) ≡ zeros k
+fewer_zeros n zero le = refl
+fewer_zeros zero (suc k) le = absurd (omega (arith, le))
+fewer_zeros (suc n) (suc k) le = ap (λ l. 0 ∷ l) (fewer_zeros n k (omega (arith, le)))
+
 flat_length : (rows : List Row) → length (flat rows) ≡ 3 * length rows
 flat_length [] = refl
 flat_length (row ∷ rows) = let rest = flat_length rows in omega (arith, rest)

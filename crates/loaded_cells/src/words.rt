@@ -76,7 +76,7 @@ fn push_block(words: &mut Vec<u64>, low: Key, high: Key, rows: &[Row]) -> Result
 {
     push_head(words, low, high, rows.len())?;
     push_rows(words, rows)?;
-    push_zeros(words, 96 - 3 * rows.len())?;
+    push_tail(words, 96 - 3 * rows.len())?;
     Ok(())
 }
 
@@ -85,12 +85,7 @@ fn push_head(words: &mut Vec<u64>, low: Key, high: Key, rows: usize) -> Result<(
     ensures { OnOk result (words.new.items ≡ words.old.items
         ++ 0 ∷ rows ∷ low.src ∷ low.second ∷ high.src ∷ high.second ∷ []) }
 {
-    words.push(0)?;
-    words.push(rows as u64)?;
-    words.push(low.src)?;
-    words.push(low.second)?;
-    words.push(high.src)?;
-    words.push(high.second)?;
+    words.extend_from_slice(&[0, rows as u64, low.src, low.second, high.src, high.second])?;
     Ok(())
 }
 
@@ -107,9 +102,7 @@ fn push_rows(words: &mut Vec<u64>, rows: &[Row]) -> Result<(), NoMemory>
 fn push_row(words: &mut Vec<u64>, row: Row) -> Result<(), NoMemory>
     ensures { OnOk result (words.new.items ≡ words.old.items ++ flat (row ∷ [])) }
 {
-    words.push(row.key.src)?;
-    words.push(row.key.second)?;
-    words.push(row.weight)?;
+    words.extend_from_slice(&[row.key.src, row.key.second, row.weight])?;
     Ok(())
 }
 
@@ -119,5 +112,15 @@ fn push_zeros(words: &mut Vec<u64>, count: usize) -> Result<(), NoMemory>
     'zeros: for _word in 0..count {
         words.push(0)?;
     }
+    Ok(())
+}
+
+/// The zeros after the rows of a block, all at once.
+fn push_tail(words: &mut Vec<u64>, count: usize) -> Result<(), NoMemory>
+    requires { count ≤ 96 }
+    ensures { OnOk result (words.new.items ≡ words.old.items ++ zeros count) }
+{
+    let tail = [0u64; 96];
+    words.extend_from_slice(&tail[..count])?;
     Ok(())
 }

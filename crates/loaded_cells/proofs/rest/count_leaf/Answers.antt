@@ -1,4 +1,4 @@
-use Rattle.std.proofs.Common.{◌≡◌, ◌∙◌, suc, ◌+◌, ◌-◌, ◌++◌, ◌∷◌, [], ap, arith, length, sym, take}
+use Rattle.std.proofs.Common.{◌≡◌, suc, ◌+◌, ◌-◌, ◌++◌, ◌∷◌, [], ap, arith, length, sym}
 use Rattle.std.proofs.lemmas.List.{length-map, length-take}
 use Rattle.rule_model.specs.VersionSegment.Rows.{settled_row}
 use Rattle.loaded_cells.specs.Ranges.{leaf_segments, segment_of}
