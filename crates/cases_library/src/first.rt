@@ -7,8 +7,8 @@ use std::alloc::Global;
 use std::sync::Wait;
 use std::thread::Threads;
 use teseo_store::{
-    Closed, Committed, Config, Kind, NotBegun, Refusal, Session, SessionPlace, Store, StoreRefusal,
-    Transaction, VertexEngine, Work,
+    Closed, Committed, Config, GraphStore, Kind, NotBegun, Refusal, Session, SessionPlace,
+    StoreRefusal, Transaction, VertexEngine, Work,
 };
 
 /// What became of a first payment.
@@ -65,7 +65,7 @@ pub fn pay_first<R: Threads + Wait + Sync>(
         passes: 1,
         txns_per_pass: 10,
     };
-    let mut store = Store::open(alloc, config)?;
+    let mut store = GraphStore::open(alloc, config)?;
     store.run_one(rt, payment);
     Ok(store.close())
 }

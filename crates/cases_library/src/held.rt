@@ -5,8 +5,8 @@ use std::alloc::Global;
 use std::sync::{Barrier, Wait};
 use std::thread::Threads;
 use teseo_store::{
-    Closed, Committed, Config, Kind, NotBegun, Refusal, RetryError, Session, SessionPlace, Store,
-    StoreRefusal, VertexEngine, Work,
+    Closed, Committed, Config, GraphStore, Kind, NotBegun, Refusal, RetryError, Session,
+    SessionPlace, StoreRefusal, VertexEngine, Work,
 };
 
 /// How often the rival tries while the edge is held.
@@ -100,7 +100,7 @@ pub fn pay_while_held<R: Threads + Wait + Sync>(
         passes: 2,
         txns_per_pass: 10,
     };
-    let mut store = Store::open(alloc, config)?;
+    let mut store = GraphStore::open(alloc, config)?;
     store.run_one(rt, &mut OpenAccounts { is_refused: false });
     store.run(rt, parties);
     Ok(store.close())

@@ -4,8 +4,8 @@ use std::alloc::Global;
 use std::sync::Wait;
 use std::thread::Threads;
 use teseo_store::{
-    Change, Closed, Config, Kind, Refusal, Session, SessionPlace, Store, StoreRefusal, Transaction,
-    VertexEngine, Work,
+    Closed, Config, GraphStore, Kind, Refusal, Session, SessionPlace, StoreRefusal, Transaction,
+    TransactionBody, VertexEngine, Work,
 };
 
 /// Account 1 pays account 2 no more than this in all.
@@ -20,7 +20,7 @@ pub struct Pay {
     pub is_over: bool,
 }
 
-impl Change for Pay {
+impl TransactionBody for Pay {
     fn make<E: VertexEngine, P: SessionPlace>(
         &mut self,
         txn: &mut Transaction<E, P>,
@@ -66,7 +66,7 @@ pub struct OpenAccounts {
     pub is_refused: bool,
 }
 
-impl Change for OpenAccounts {
+impl TransactionBody for OpenAccounts {
     fn make<E: VertexEngine, P: SessionPlace>(
         &mut self,
         txn: &mut Transaction<E, P>,
@@ -96,7 +96,7 @@ pub fn pay_by_two<R: Threads + Wait + Sync>(
         passes: 2,
         txns_per_pass: 1000000,
     };
-    let mut store = Store::open(alloc, config)?;
+    let mut store = GraphStore::open(alloc, config)?;
     store.run_one(rt, &mut OpenAccounts { is_refused: false });
     store.run(rt, clerks);
     Ok(store.close())

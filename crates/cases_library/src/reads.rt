@@ -6,8 +6,8 @@ ghost use Rattle.cases_library.specs.Payments.{three_accounts};
 use std::alloc::Global;
 use std::sync::Wait;
 use teseo_store::{
-    Closed, Committed, Config, Cursor, Key, Kind, LoadedRefusal, NoMemory, NotBegun, Refusal,
-    Rows64, Session, SessionPlace, Store, Transaction, VertexEngine, Work, Write, Writes,
+    Closed, Committed, Config, Cursor, GraphStore, Key, Kind, LoadedRefusal, NoMemory, NotBegun,
+    Refusal, Rows64, Session, SessionPlace, Transaction, VertexEngine, Work, Write, Writes,
 };
 
 /// What a transaction sees of an account.
@@ -135,7 +135,7 @@ pub fn survey_three<R: Wait>(
         txns_per_pass: 10,
     };
     let graph = three(alloc)?;
-    let mut store = Store::load(alloc, config, graph)?;
+    let mut store = GraphStore::load(alloc, config, graph)?;
     let sessions = store.sessions();
     store.run_one(rt, survey);
     Ok((sessions, store.close()))

@@ -7,7 +7,7 @@ ghost use Rattle.cases_shared.specs.SharedStore.Passes.{IsIdle, IsOpen};
 use crate::txns::{FoundRun, route_of, run_in, tried_in};
 use cases_shared::Case;
 use cases_shared::below::{Pass, Store, abort, begin};
-use cases_workers::below::{Route, Tried};
+use cases_workers::below::{CellRoute, Tried};
 use graph_model::Key;
 use std::sync::Wait;
 
@@ -41,7 +41,7 @@ fn try_beside_holder(
     store: &Store,
     one: &mut Pass,
     two: &mut Pass,
-    route: &Route,
+    route: &CellRoute,
     read: &mut ReadHeldCell,
 )
     requires one { IsOpen store.now one.old }

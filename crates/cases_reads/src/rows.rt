@@ -6,7 +6,7 @@ ghost use Rattle.cases_shared.specs.SharedStore.Passes.{IsIdle};
 use crate::txns::{FoundRun, route_of, run_in, tried_in};
 use cases_shared::below::{Pass, Store, SweepKey, abort, begin, commit, sweep_step};
 use cases_shared::{Case, makes};
-use cases_workers::below::{Route, Tried};
+use cases_workers::below::{CellRoute, Tried};
 use graph_model::Write;
 use std::sync::Wait;
 
@@ -49,7 +49,7 @@ impl<R: Wait> Case<R> for ReadSettled {
         let route = route_of(rt, store, one, 7);
         self.there = Some(tried_in(store, one, &route, 7));
         self.missing = Some(tried_in(store, one, &route, 31));
-        let next = Route {
+        let next = CellRoute {
             cell: route.cell + 1,
         };
         if next.cell < store.index_place() {
@@ -84,7 +84,7 @@ impl<R: Wait> Case<R> for ReadRuns {
         let route = route_of(rt, store, one, 7);
         self.few = Some(run_in(store, one, &route, 7, 10));
         self.all = Some(run_in(store, one, &route, 7, LAST));
-        let next = Route {
+        let next = CellRoute {
             cell: route.cell + 1,
         };
         if next.cell < store.index_place() {

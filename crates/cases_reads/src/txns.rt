@@ -6,7 +6,7 @@ ghost use Rattle.cases_workers.specs.RuleModel.Sight.{cells_of};
 ghost use Rattle.cases_shared.specs.SharedStore.Passes.{IsOpen};
 
 use cases_shared::below::{Pass, Store};
-use cases_workers::below::{Route, Tried, TriedRun, route, try_has_vertex, try_run};
+use cases_workers::below::{CellRoute, Tried, TriedRun, route, try_has_vertex, try_run};
 use graph_model::{Key, Rows64};
 use std::sync::Wait;
 
@@ -18,7 +18,7 @@ pub struct FoundRun {
 }
 
 /// The cell that the index has for a vertex.
-pub fn route_of(rt: &impl Wait, store: &Store, pass: &mut Pass, v: u64) -> Route
+pub fn route_of(rt: &impl Wait, store: &Store, pass: &mut Pass, v: u64) -> CellRoute
     requires opened { IsOpen store.now pass.old }
     ensures opened { IsOpen store.now pass.new }
     ensures number { pass.new.seats.number ≡ pass.old.seats.number }
@@ -28,7 +28,7 @@ pub fn route_of(rt: &impl Wait, store: &Store, pass: &mut Pass, v: u64) -> Route
 }
 
 /// What a try to read a vertex in that cell finds.
-pub fn tried_in(store: &Store, pass: &mut Pass, route: &Route, v: u64) -> Tried
+pub fn tried_in(store: &Store, pass: &mut Pass, route: &CellRoute, v: u64) -> Tried
     requires opened { IsOpen store.now pass.old }
     requires cell { route.now.cell < cells_of store.now.accounts.config }
     requires within { v ≤ MAX_ID }
@@ -39,7 +39,7 @@ pub fn tried_in(store: &Store, pass: &mut Pass, route: &Route, v: u64) -> Tried
 }
 
 /// What a try to read the rows from one vertex on and before another finds in that cell.
-pub fn run_in(store: &Store, pass: &mut Pass, route: &Route, from: u64, until: u64) -> FoundRun
+pub fn run_in(store: &Store, pass: &mut Pass, route: &CellRoute, from: u64, until: u64) -> FoundRun
     requires opened { IsOpen store.now pass.old }
     requires cell { route.now.cell < cells_of store.now.accounts.config }
     requires ahead { from < until }

@@ -13,7 +13,7 @@ use std::sync::atomic::{AtomicU64, Ordering};
 use std::thread;
 use std::time::{Duration, Instant};
 use teseo_store::{
-    Change, MAX_WEIGHT, Refusal, Session, SessionPlace, Transaction, VertexEngine, Work,
+    MAX_WEIGHT, Refusal, Session, SessionPlace, Transaction, TransactionBody, VertexEngine, Work,
 };
 
 /// How often a transfer is tried. Each try that meets a conflict has met somebody else's write, which is booked.
@@ -76,7 +76,7 @@ struct Booking {
     is_over: bool,
 }
 
-impl Change for Booking {
+impl TransactionBody for Booking {
     fn make<E: VertexEngine, P: SessionPlace>(
         &mut self,
         txn: &mut Transaction<E, P>,

@@ -33,7 +33,7 @@ use std::sync::Wait;
 use std::sync::atomic::AtomicU64;
 use std::thread::Threads;
 use std::time::Duration;
-use teseo_store::{Config, Kind, MAX_TXNS_PER_PASS, Store};
+use teseo_store::{Config, GraphStore, Kind, MAX_TXNS_PER_PASS};
 use transfer::{Transfer, read_transfers};
 use watcher::Watcher;
 use words::{Words, read_words};
@@ -63,7 +63,7 @@ fn run<'a, R: Threads + Wait + Clock + Print + Eprint + Sync>(
         passes: SESSIONS,
         txns_per_pass: MAX_TXNS_PER_PASS,
     };
-    let mut store = Store::open(alloc, config)?;
+    let mut store = GraphStore::open(alloc, config)?;
     let busy = AtomicU64::new(CLERKS);
     let (first, rest) = transfers.split_at(transfers.len() / 2);
     let mut duties = [

@@ -9,7 +9,7 @@
 ghost use Rattle.std.specs.Prelude.{◌<◌, length};
 ghost use Rattle.std.specs.Thread.{IsSync};
 
-use crate::worker::{FAR, Offer, Offers, Sharing, Worker};
+use crate::worker::{FAR, Offer, Offers, SearchWorker, Sharing};
 use graph_image::{Image, NoMemory};
 use std::alloc::Global;
 use std::thread::{Threads, for_each_mut, join_mut};
@@ -32,7 +32,7 @@ struct Team {
     sharing: Sharing,
     /// The least weight of a path to each place, of the paths that were found.
     distances: Vec<u32>,
-    workers: Vec<Worker>,
+    workers: Vec<SearchWorker>,
     /// What each worker offers.
     offers: Vec<Offers>,
 }
@@ -88,7 +88,7 @@ impl Team {
             offers: Vec::new(alloc),
         };
         'workers: for _worker in 0..workers {
-            team.workers.push(Worker::new(alloc)?)?;
+            team.workers.push(SearchWorker::new(alloc)?)?;
             team.offers.push(Offers::new(alloc, workers)?)?;
         }
         team.begin(root)?;
@@ -202,7 +202,7 @@ fn look<R: Threads + Sync>(
     image: &Image,
     share: usize,
     distances: &[u32],
-    workers: &[Worker],
+    workers: &[SearchWorker],
     threads: usize,
     offers: &mut [Offers],
 )
@@ -229,7 +229,7 @@ fn take<R: Threads + Sync>(
     offers: &[Offers],
     together: bool,
     first: usize,
-    workers: &mut [Worker],
+    workers: &mut [SearchWorker],
     distances: &mut [u32],
 ) {
     let count = workers.len();
@@ -260,10 +260,10 @@ fn take_both<R: Threads + Sync>(
     sharing: Sharing,
     offers: &[Offers],
     first: usize,
-    front: &mut [Worker],
+    front: &mut [SearchWorker],
     low: &mut [u32],
     middle: usize,
-    back: &mut [Worker],
+    back: &mut [SearchWorker],
     high: &mut [u32],
 )
     requires front { 0 < length front.old }

@@ -46,7 +46,7 @@ pub struct Offer {
 
 /// What a worker keeps beside the distances of its places.
 #[derive(Drop)]
-pub struct Worker {
+pub struct SearchWorker {
     /// The visits of the bucket at hand.
     pub visits: Vec<Offer>,
     /// Those of the buckets after it, each at the rest of its number by so many buckets as there are.
@@ -66,10 +66,10 @@ pub struct Offers {
     pub lacks_memory: bool,
 }
 
-impl Worker {
+impl SearchWorker {
     /// Nothing to visit.
-    pub fn new(alloc: Global) -> Result<Worker, NoMemory> {
-        Ok(Worker {
+    pub fn new(alloc: Global) -> Result<SearchWorker, NoMemory> {
+        Ok(SearchWorker {
             visits: Vec::new(alloc),
             later: lists_of(alloc, SLOTS as usize)?,
             lacks_memory: false,

@@ -23,4 +23,4 @@ pub use read::{try_has_vertex, try_key, try_weight};
 pub use reader_run::try_reader_run;
 pub use routing::route;
 pub use scan::try_run;
-pub use tried::{Route, Tried, TriedRun};
+pub use tried::{CellRoute, Tried, TriedRun};

@@ -16,13 +16,13 @@ ghost use Rattle.optimistic_read.specs.Tried.{IsTried, IsValueOf, MayTry, OnlyRe
 
 use crate::block::{BlockRead, look_up};
 use crate::decode::decode;
-use crate::tried::{Route, Tried};
+use crate::tried::{CellRoute, Tried};
 use graph_model::Key;
 use pass_steps::below::{Account, Accounts, Block, Pass, Store};
 
 /// Tries to read whether the open transaction sees a vertex, whose value is 0. It makes loads alone, takes no latch and
 /// no memory, and waits for nobody.
-pub fn try_has_vertex(store: &Store, pass: &mut Pass, route: &Route, v: u64) -> Tried
+pub fn try_has_vertex(store: &Store, pass: &mut Pass, route: &CellRoute, v: u64) -> Tried
     requires may { MayTry store.now pass.old route.now.cell }
     requires within { v ≤ MAX_ID }
     ensures reads { OnlyReads pass.old pass.new }
@@ -35,7 +35,7 @@ pub fn try_has_vertex(store: &Store, pass: &mut Pass, route: &Route, v: u64) -> 
 
 /// Tries to read the weight of an arc that the open transaction sees. It makes loads alone, takes no latch and no
 /// memory, and waits for nobody.
-pub fn try_weight(store: &Store, pass: &mut Pass, route: &Route, u: u64, v: u64) -> Tried
+pub fn try_weight(store: &Store, pass: &mut Pass, route: &CellRoute, u: u64, v: u64) -> Tried
     requires may { MayTry store.now pass.old route.now.cell }
     requires source_within { u ≤ MAX_ID }
     requires target_within { v ≤ MAX_ID }
@@ -49,7 +49,7 @@ pub fn try_weight(store: &Store, pass: &mut Pass, route: &Route, u: u64, v: u64)
 
 /// Tries to read what the open transaction sees at a key: a weight of an arc, or 0 of a vertex. It makes loads alone,
 /// takes no latch and no memory, and waits for nobody.
-pub fn try_key(store: &Store, pass: &mut Pass, route: &Route, key: Key) -> Tried
+pub fn try_key(store: &Store, pass: &mut Pass, route: &CellRoute, key: Key) -> Tried
     requires may { MayTry store.now pass.old route.now.cell }
     ensures reads { OnlyReads pass.old pass.new }
     ensures tried { IsTried store.now.accounts.config pass.old.number (state_of pass.old)

@@ -15,7 +15,7 @@ ghost use Rattle.optimistic_read.specs.Tried.{SeatReads};
 use crate::block::BlockRead;
 use crate::decode::decode_run;
 use crate::run::load_run;
-use crate::tried::{Route, TriedRun};
+use crate::tried::{CellRoute, TriedRun};
 use graph_model::{Key, Rows64};
 use pass_steps::below::{Account, Accounts, Block, Store};
 
@@ -25,7 +25,7 @@ use pass_steps::below::{Account, Accounts, Block, Store};
 pub fn try_reader_run(
     store: &Store,
     seat: &mut Account,
-    route: &Route,
+    route: &CellRoute,
     from: Key,
     until: Key,
     rows: &mut Rows64,

@@ -10,14 +10,14 @@ ghost use Rattle.pass_steps.specs.StoreRule.Passes.{OnlyAccount};
 ghost use Rattle.pass_steps.specs.Passes.{IsOpenPass, IsSamePass, pin_of, state_of};
 ghost use Rattle.optimistic_read.specs.Routes.{MayNote, noting};
 
-use crate::tried::Route;
+use crate::tried::CellRoute;
 use graph_model::{Key, LEAF_SEGMENTS};
 use pass_steps::below::{Change, Pass, Store};
 use std::sync::Wait;
 
 /// Asks the index for the cell of a key, and notes its leaf: it is not given out again before the transaction ends, so
 /// the cell stays the key's until rows move. Waits for the index, holds it meanwhile, and takes no memory.
-pub fn route(rt: &impl Wait, store: &Store, pass: &mut Pass, key: Key) -> Route
+pub fn route(rt: &impl Wait, store: &Store, pass: &mut Pass, key: Key) -> CellRoute
     requires opened { IsOpenPass store.now pass.old }
     ensures opened { IsOpenPass store.now pass.new }
     ensures state { state_of pass.new ≡ state_of pass.old }
@@ -33,7 +33,7 @@ pub fn route(rt: &impl Wait, store: &Store, pass: &mut Pass, key: Key) -> Route
     note_leaf(store, pass, cell / LEAF_SEGMENTS as u32);
     let held = store.lay_index(pass, held);
     cells.give(&mut pass.latch, held);
-    Route { cell }
+    CellRoute { cell }
 }
 
 /// Notes a live leaf by one load of the clock, with the index in hand. So it is known how many leaves there are.

@@ -15,7 +15,7 @@ ghost use Rattle.optimistic_read.specs.Tried.{MayTry, OnlyReads, SeatReads, view
 use crate::block::BlockRead;
 use crate::decode::decode_run;
 use crate::run::load_run;
-use crate::tried::{Route, TriedRun};
+use crate::tried::{CellRoute, TriedRun};
 use graph_model::{Key, Rows64};
 use pass_steps::below::{Account, Accounts, Block, Pass, Store};
 
@@ -26,7 +26,7 @@ use pass_steps::below::{Account, Accounts, Block, Pass, Store};
 pub fn try_run(
     store: &Store,
     pass: &mut Pass,
-    route: &Route,
+    route: &CellRoute,
     from: Key,
     until: Key,
     rows: &mut Rows64,

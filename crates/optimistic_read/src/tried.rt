@@ -6,7 +6,7 @@ use graph_model::Key;
 
 /// The cell in which a key is read: the one that the index had for it, or that a hint names.
 #[derive(Clone, Copy, Debug, PartialEq, Eq)]
-pub struct Route {
+pub struct CellRoute {
     /// The number of the cell.
     pub cell: u32,
 }

@@ -18,8 +18,8 @@ use Rattle.room_choice.specs.Choice.{IsCrowded}
 use Rattle.pass_leaves.specs.PassCellsDeclared.taken.TakenCell.{TakenCell}
 use Rattle.pass_leaves.specs.PassCells.Holding.{AreKnown, numbers_of}
 use Rattle.pass_leaves.specs.Hand.{HasIndexHeld, numbers_from}
-use Rattle.pass_moves.specs.declared.room.Room.{Room}
-use Rattle.pass_moves.specs.declared.room.Room.TheVariants as rooms
+use Rattle.pass_moves.specs.declared.room.CellRoom.{CellRoom}
+use Rattle.pass_moves.specs.declared.room.CellRoom.TheVariants as rooms
 
 -- one of these covers the key, and has so many free places
 pub record HasRoom (key : Key) (need : ℕ) (ss : List VersionedRows) : Type 0 where
@@ -41,6 +41,6 @@ pub record IsCrowdedAt (key : Key) (need : ℕ) (index : Index) (leaf : ℕ) (ss
   pub holds : HoldsKey ss key segment
   pub crowded : IsCrowded (counts_of ss) segment need
 
-abbrev pub IsRoom : Key → ℕ → Index → ℕ → List VersionedRows → Room → Type 0
+abbrev pub IsRoom : Key → ℕ → Index → ℕ → List VersionedRows → CellRoom → Type 0
 IsRoom key need index leaf ss rooms.Free = HasRoom key need ss
 IsRoom key need index leaf ss rooms.Crowded = IsCrowdedAt key need index leaf ss

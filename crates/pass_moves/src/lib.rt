@@ -13,6 +13,6 @@ mod spread;
 mod step;
 
 pub use contents::{count_rows, exchange, mark};
-pub use room::{Room, counts_in, free_places, is_crowded};
+pub use room::{CellRoom, counts_in, free_places, is_crowded};
 pub use spread::spread_window;
 pub use step::Moving;

@@ -20,7 +20,7 @@ use std::alloc::Global;
 
 /// Whether a key's cell has the free places that were asked for.
 #[derive(Clone, Copy, Debug, PartialEq, Eq)]
-pub enum Room {
+pub enum CellRoom {
     /// It has them.
     Free,
     /// No window of the leaf has room for the rows needed.
@@ -38,7 +38,7 @@ pub fn free_places(
     need: u8,
     space: &mut Leaf,
     alloc: Global,
-) -> Result<Room, NoMemory>
+) -> Result<CellRoom, NoMemory>
     requires holds { (leaf : ℕ) × HoldsLeaves store.now pass.old (leaf ∷ []) cells.old index.old
         × IsLeafOfKey key index.old.value.value leaf }
     requires fit { TellsFit store.now.accounts.config pass.old.account.me.0 }
@@ -59,13 +59,13 @@ pub fn free_places(
     let segment = (route.cell % 8) as usize;
     // As if a leaf were free: whether one is, is asked by whoever splits.
     match choose_room(counts, segment, need, 1) {
-        RoomChoice::Enough => Ok(Room::Free),
+        RoomChoice::Enough => Ok(CellRoom::Free),
         RoomChoice::Spread { window } => {
             spread_window(store, pass, cells, index, window, space, alloc)?;
-            Ok(Room::Free)
+            Ok(CellRoom::Free)
         }
         // A split needs a free leaf, whose cells may come before those in hand in the order.
-        RoomChoice::Split => Ok(Room::Crowded),
+        RoomChoice::Split => Ok(CellRoom::Crowded),
         RoomChoice::Full => unreachable!(),
     }
 }

@@ -17,7 +17,7 @@ use crate::hand::{put_back, take_leaf};
 use crate::made::{NoRoom, RoomMade, StoreFull};
 use crate::own::PassRoom;
 use graph_model::{Key, NoMemory};
-use pass_splits::below::{HeldIndex, LeafInHand, Room, free_places};
+use pass_splits::below::{CellRoom, HeldIndex, LeafInHand, free_places};
 use pass_splits::next_free;
 use pass_writes::below::{CellHints, Leaf, Pass, Store, TakenCell};
 use std::alloc::Global;
@@ -89,8 +89,8 @@ fn spread_in_hand(
     ensures refused { IfErr result (IsNoRoom store.now key need) }
 {
     match free_places(store, pass, cells, index, key, need, space, alloc) {
-        Ok(Room::Free) => Ok(Spread::Made(RoomMade::at(store, pass, cells, index, key, need))),
-        Ok(Room::Crowded) => look_for_free(store, pass, cells, index, leaf, key, need),
+        Ok(CellRoom::Free) => Ok(Spread::Made(RoomMade::at(store, pass, cells, index, key, need))),
+        Ok(CellRoom::Crowded) => look_for_free(store, pass, cells, index, leaf, key, need),
         Err(NoMemory) => Err(NoRoom::NoMemory),
     }
 }

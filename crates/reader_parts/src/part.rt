@@ -7,13 +7,13 @@ ghost use Rattle.reader_parts.specs.Parts.{HasRead, MayRead};
 
 use graph_model::{Key, Row};
 use shared_readers::below::{CellHints, Store};
-use shared_readers::{ReadPlace, Reader, read_part};
+use shared_readers::{ReadPlace, SnapshotReader, read_part};
 use std::sync::Wait;
 
 /// The rows from a key on and before another, as far as they were read. Where memory ran out in the thread it says so.
 pub struct ReaderPart {
     /// Whoever reads it, in a thread of its own.
-    pub(crate) reader: Reader,
+    pub(crate) reader: SnapshotReader,
     /// Where it begins.
     pub(crate) from: Key,
     /// Where it ends, and the next part begins.

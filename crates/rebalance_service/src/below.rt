@@ -1,7 +1,7 @@
 //! What crates above name of crates that they don't list.
 
 pub use worker_calls::below::{
-    Closed, LoadedRefusal, Pass, Passes, Route, Store, SweepKey, Tried, TriedRun, VersionSegment,
-    close, let_go, loaded, loaded_by_threads, meet, new, route, sweep_step, try_has_vertex,
-    try_run,
+    CellRoute, Closed, LoadedRefusal, Pass, Passes, Store, SweepKey, Tried, TriedRun,
+    VersionSegment, close, let_go, loaded, loaded_by_threads, meet, new, route, sweep_step,
+    try_has_vertex, try_run,
 };

@@ -13,7 +13,7 @@ mod session;
 mod transaction;
 
 pub use place::SessionPlace;
-pub use retry::{Change, RetryError};
+pub use retry::{RetryError, TransactionBody};
 pub use scans::Neighbour;
 pub use session::{NotBegun, Session};
 pub use transaction::{Committed, Transaction};

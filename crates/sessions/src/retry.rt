@@ -13,7 +13,7 @@ use graph_model::{BeginRefusal, Refusal, VertexEngine};
 use thiserror::Error;
 
 /// What is done in a transaction, once or several times.
-pub trait Change {
+pub trait TransactionBody {
     ghost use Rattle.std.specs.Prelude.{Result};
     ghost use Rattle.graph_model.specs.declared.refusal.Refusal.{Refusal};
     ghost use Rattle.graph_model.specs.Account.{Account};
@@ -47,7 +47,7 @@ pub enum RetryError {
 impl<E: VertexEngine, P: SessionPlace> Session<E, P> {
     /// Makes a change in a transaction of its own and commits it. Where a write meets a conflict the transaction is
     /// taken back, and the change is made again in a new one, which sees more: so many times at most.
-    pub fn with_retry<C: Change>(
+    pub fn with_retry<C: TransactionBody>(
         self,
         tries: u32,
         change: &mut C,
@@ -69,7 +69,10 @@ impl<E: VertexEngine, P: SessionPlace> Session<E, P> {
     }
 
     /// Makes a change in a transaction, and commits it or takes it back.
-    fn try_once<C: Change>(self, change: &mut C) -> (Session<E, P>, Result<Option<u64>, RetryError>)
+    fn try_once<C: TransactionBody>(
+        self,
+        change: &mut C,
+    ) -> (Session<E, P>, Result<Option<u64>, RetryError>)
         ensures committed { IfOk result.1 (λ stamp.
             IsCommitted C.did P.number change.old change.new stamp (E.account result.0.engine)) }
         ensures stopped { IfErr result.1 (λ why.

@@ -14,7 +14,7 @@ use Rattle.pass_readers.specs.Readers.{IsReaderOf, first_of, read_by, seen_by}
 use Rattle.shared_store.specs.declared.pass.Pass.{Pass}
 use Rattle.shared_store.specs.Passes.{IsIdle, IsOpen, account_of, view_in}
 use Rattle.shared_store.proofs.PassLemmas.{view_has_end}
-use Rattle.shared_readers.specs.declared.reader.Reader.{Reader}
+use Rattle.shared_readers.specs.declared.reader.SnapshotReader.{SnapshotReader}
 use Rattle.shared_readers.specs.Readers.{EndsWithKeys, IsLending, IsReader, KeepsLending, out_of, own_account, seen_in}
 
 -- ---- the pass that lends
@@ -83,7 +83,7 @@ pub reads_by : (store : Store) (x : ReaderState) (seats : Seats) → IsReaderOf 
 reads_by store x seats of i = first_of (of.sight.readers i)
 
 module _ (store : Store) (from : Pass) (answer : Begun) (was : IsLending store from)
-    (by : answer.by ≡ record { job = from.seats.number; number = from.begun }) (since : answer.start ≡ from.start) (to : Pass) (idle : IsIdle store to) (reader : Reader)
+    (by : answer.by ≡ record { job = from.seats.number; number = from.begun }) (since : answer.start ≡ from.start) (to : Pass) (idle : IsIdle store to) (reader : SnapshotReader)
     (of : IsReaderOf store (reader_of_pass from.seats) reader.pass.seats) (none : HoldsNone reader.pass.seats)
     (state : state_of reader.pass.seats ≡ state_of to.seats) (number : reader.pass.seats.number ≡ to.seats.number)
     (cells : reader.pass.cells.taken.list.items ≡ to.cells.taken.list.items) (begun : reader.pass.begun ≡ to.begun)
@@ -119,7 +119,7 @@ module _ (store : Store) (from : Pass) (answer : Begun) (was : IsLending store f
 
 -- ---- and is a pass again
 
-module _ (store : Store) (reader : Reader) (was : IsReader store reader) (pass : Pass)
+module _ (store : Store) (reader : SnapshotReader) (was : IsReader store reader) (pass : Pass)
     (idle : IsIdlePass store pass.seats) (state : state_of pass.seats ≡ state_of reader.pass.seats)
     (number : pass.seats.number ≡ reader.pass.seats.number)
     (cells : pass.cells.taken.list.items ≡ reader.pass.cells.taken.list.items) (begun : pass.begun ≡ reader.pass.begun)

@@ -18,13 +18,13 @@ use Rattle.pass_readers.specs.Hand.{HasNothing, KeepsReader}
 use Rattle.pass_readers.specs.Readers.{seen_by}
 use Rattle.pass_readers.specs.Runs.{IsRunTo}
 use Rattle.pass_readers.proofs.HandLemmas.{read_keeps_reader, read_takes_nothing}
-use Rattle.shared_readers.specs.declared.reader.Reader.{Reader}
+use Rattle.shared_readers.specs.declared.reader.SnapshotReader.{SnapshotReader}
 use Rattle.shared_readers.specs.Readers.{EndsWithKeys, IsReader, KeepsReading, own_account, seen_in}
 use Rattle.shared_readers.specs.Runs.{ReadsNone, ReadsTo}
 
 -- ---- the same reader
 
-module _ (store : Store) (old new : Reader) (was : IsReader store old)
+module _ (store : Store) (old new : SnapshotReader) (was : IsReader store old)
     (keeps : KeepsReader old.pass.seats new.pass.seats)
     (nothing : HasNothing store new.pass.seats new.pass.cells.taken.list.items) (begun : new.pass.begun ≡ old.pass.begun)
     (own : new.pass.own.items ≡ old.pass.own.items) (changed : new.pass.changed.items ≡ old.pass.changed.items)
@@ -50,10 +50,10 @@ module _ (store : Store) (old new : Reader) (was : IsReader store old)
     account = account_kept;
   }
 
-pub keeps_itself : (store : Store) (reader : Reader) → IsReader store reader → KeepsReading store reader reader
+pub keeps_itself : (store : Store) (reader : SnapshotReader) → IsReader store reader → KeepsReading store reader reader
 keeps_itself store reader is = record { reader = is; reads = refl; account = refl }
 
-pub keeps_twice : (store : Store) (old mid new : Reader) → KeepsReading store old mid → KeepsReading store mid new
+pub keeps_twice : (store : Store) (old mid new : SnapshotReader) → KeepsReading store old mid → KeepsReading store mid new
     → KeepsReading store old new
 keeps_twice store old mid new first then = record {
   reader = then.reader;
@@ -61,11 +61,11 @@ keeps_twice store old mid new first then = record {
   account = then.account ∙ first.account;
 }
 
-pub same_seen : (store : Store) (old new : Reader) → KeepsReading store old new → seen_in store new ≡ seen_in store old
+pub same_seen : (store : Store) (old new : SnapshotReader) → KeepsReading store old new → seen_in store new ≡ seen_in store old
 same_seen store old new kept i = seen_by store.accounts.config (kept.reads i)
 
 -- TRIED: a seat has read, and nothing else has changed
-module _ (store : Store) (old new : Reader) (was : IsReader store old)
+module _ (store : Store) (old new : SnapshotReader) (was : IsReader store old)
     (number : new.pass.seats.number ≡ old.pass.seats.number) (latch : new.pass.seats.latch ≡ old.pass.seats.latch)
     (buffers : new.pass.seats.buffers ≡ old.pass.seats.buffers)
     (reads : SeatReads old.pass.seats.account new.pass.seats.account)
@@ -89,7 +89,7 @@ if_some None f h = tt
 if_some (Some x) f h = f x h
 
 -- the buffer is as it was, and so is what is seen
-pub again_run : (store : Store) (old mid : Reader) → KeepsReading store old mid → (t : TriedRun) (from until : Key)
+pub again_run : (store : Store) (old mid : SnapshotReader) → KeepsReading store old mid → (t : TriedRun) (from until : Key)
     (before now after : List Row) → now ≡ before → IsRun t (seen_in store mid) from until now after
     → IsRun t (seen_in store old) from until before after
 again_run store old mid kept t from until before now after same run =

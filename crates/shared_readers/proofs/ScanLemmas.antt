@@ -11,7 +11,7 @@ use Rattle.graph_model.proofs.RowLemmas.{ranges_adjoin, rows_of_values}
 use Rattle.edge_scan.specs.Steps.{IsUnderWay, end_of}
 use Rattle.optimistic_read.specs.StoreRuleDeclared.store.Store.{Store}
 use Rattle.pass_readers.specs.Runs.{IsRunTo}
-use Rattle.shared_readers.specs.declared.reader.Reader.{Reader}
+use Rattle.shared_readers.specs.declared.reader.SnapshotReader.{SnapshotReader}
 use Rattle.shared_readers.specs.Readers.{EndsWithKeys, KeepsReading, seen_in}
 use Rattle.shared_readers.proofs.ReadLemmas.{keeps_twice, same_seen}
 
@@ -61,13 +61,13 @@ step_end end cursor inside = go (is_below end cursor.until) refl
 -- ---- a scan
 
 -- how far it is
-pub record IsScanning (store : Store) (old now : Reader) (first cursor : Cursor) (given : List Row) : Type 0 where
+pub record IsScanning (store : Store) (old now : SnapshotReader) (first cursor : Cursor) (given : List Row) : Type 0 where
   pub kept : KeepsReading store old now
   pub going : cursor.done ≡ false
   pub few : length given < 64
   pub under_way : IsUnderWay (seen_in store old) first cursor given
 
-pub scan_starts : (store : Store) (reader : Reader) (first : Cursor) (given : List Row)
+pub scan_starts : (store : Store) (reader : SnapshotReader) (first : Cursor) (given : List Row)
     → KeepsReading store reader reader → first.done ≡ false → given ≡ []
     → IsScanning store reader reader first first given
 scan_starts store reader first given kept going none =
@@ -82,7 +82,7 @@ scan_starts store reader first given kept going none =
       };
     })
 
-module _ (store : Store) (old mid new : Reader) (first cursor next : Cursor) (given more run : List Row) (end : Key)
+module _ (store : Store) (old mid new : SnapshotReader) (first cursor next : Cursor) (given more run : List Row) (end : Key)
     (scanning : IsScanning store old mid first cursor given)
     (read : IsRunTo end (seen_in store mid) cursor.next cursor.until run)
     (step : (g : Graph) (start : Cursor) → run ≡ rows g cursor.next end → IsUnderWay g start cursor given
@@ -112,13 +112,13 @@ with_none [] = refl
 with_none (w ∷ ws) = ap (λ rs. w ∷ rs) (with_none ws)
 
 -- the rows before this key are in the list
-pub record IsReadTo (store : Store) (old now : Reader) (from until next : Key) (before after : List Row) : Type 0 where
+pub record IsReadTo (store : Store) (old now : SnapshotReader) (from until next : Key) (before after : List Row) : Type 0 where
   pub kept : KeepsReading store old now
   pub onward : is_below next from ≡ false
   pub inside : is_below until next ≡ false
   pub rows_are : after ≡ before ++ rows (seen_in store old) from next
 
-pub part_starts : (store : Store) (reader : Reader) (from until : Key) (before : List Row)
+pub part_starts : (store : Store) (reader : SnapshotReader) (from until : Key) (before : List Row)
     → KeepsReading store reader reader → is_below until from ≡ false
     → IsReadTo store reader reader from until from before before
 part_starts store reader from until before kept ordered = record {
@@ -129,7 +129,7 @@ part_starts store reader from until before kept ordered = record {
       ∙ ap (λ ws. before ++ ws) (sym (none_left_behind (seen_in store reader) from from (below_self from)));
 }
 
-pub part_goes_on : (store : Store) (old mid new : Reader) (from until next end : Key) (before now after run : List Row)
+pub part_goes_on : (store : Store) (old mid new : SnapshotReader) (from until next end : Key) (before now after run : List Row)
     → IsReadTo store old mid from until next before now → KeepsReading store mid new
     → IsRunTo end (seen_in store mid) next until run → after ≡ now ++ run
     → IsReadTo store old new from until end before after
@@ -144,7 +144,7 @@ part_goes_on store old mid new from until next end before now after run at kept 
       (ranges_adjoin (seen_in store old) from next end at.onward (below_flip next end read.ahead));
 }
 
-pub part_ends : (store : Store) (old now : Reader) (from until next : Key) (before after : List Row)
+pub part_ends : (store : Store) (old now : SnapshotReader) (from until next : Key) (before after : List Row)
     → IsReadTo store old now from until next before after → is_below next until ≡ false
     → after ≡ before ++ rows (seen_in store old) from until
 part_ends store old now from until next before after at over =

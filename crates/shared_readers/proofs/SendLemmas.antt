@@ -6,11 +6,11 @@ use Rattle.pass_readers.proofs.PassCellsMade.CellHints.TheSendSync as hints
 use Rattle.pass_readers.specs.PassCellsContracts.hints.CellHints as Hints
 use Rattle.shared_store.proofs.SendLemmas.{pass_send, store_sync}
 use Rattle.optimistic_read.specs.StoreRuleContracts.store.Store as Store
-use Rattle.shared_readers.specs.contracts.reader.Reader as Reader
+use Rattle.shared_readers.specs.contracts.reader.SnapshotReader as SnapshotReader
 
 -- in the order of its fields
-pub reader_send : IsSend Reader.the_row
-reader_send = declared_send Reader.the_type (pass_send, (search (sendable, crosses) depth 60, tt))
+pub reader_send : IsSend SnapshotReader.the_row
+reader_send = declared_send SnapshotReader.the_type (pass_send, (search (sendable, crosses) depth 60, tt))
 
 -- as they are named here
 pub hints_sync : IsSync Hints.the_row

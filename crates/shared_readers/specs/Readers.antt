@@ -11,7 +11,7 @@ use Rattle.pass_readers.specs.Hand.{HasNothing}
 use Rattle.pass_readers.specs.Readers.{IsSnapshotOf, read_by, seen_by}
 use Rattle.shared_store.specs.declared.pass.Pass.{Pass}
 use Rattle.shared_store.specs.Passes.{account_of, view_in}
-use Rattle.shared_readers.specs.declared.reader.Reader.{Reader}
+use Rattle.shared_readers.specs.declared.reader.SnapshotReader.{SnapshotReader}
 
 -- no key from the last one on has a value
 abbrev pub EndsWithKeys : Graph → Type 0
@@ -54,18 +54,18 @@ pub record TakesBack (store : Store) (old new : Pass) : Type 0 where
 -- ---- readers
 
 -- what it sees, and whose account it reads by
-abbrev pub seen_in : Store → Reader → Graph
+abbrev pub seen_in : Store → SnapshotReader → Graph
 seen_in store reader = seen_by store.accounts.config (read_by reader.pass.seats)
 
-abbrev pub job_of : Reader → ℕ
+abbrev pub job_of : SnapshotReader → ℕ
 job_of reader = (read_by reader.pass.seats).by.job
 
 -- what the seat of its own pass knows of that pass
-abbrev pub own_account : Store → Reader → Account
+abbrev pub own_account : Store → SnapshotReader → Account
 own_account store reader = account_of store reader.pass
 
 -- it has no cell in hand, and its own pass no transaction
-pub record IsReader (store : Store) (reader : Reader) : Type 0 where
+pub record IsReader (store : Store) (reader : SnapshotReader) : Type 0 where
   pub nothing : HasNothing store reader.pass.seats reader.pass.cells.taken.list.items
   pub snapshot : IsSnapshotOf (read_by reader.pass.seats) reader.snapshot
   pub ends : EndsWithKeys (seen_in store reader)
@@ -75,7 +75,7 @@ pub record IsReader (store : Store) (reader : Reader) : Type 0 where
   pub valid : IsValid (own_account store reader)
 
 -- it reads by the same account, and its own pass is as it was
-pub record KeepsReading (store : Store) (old new : Reader) : Type 0 where
+pub record KeepsReading (store : Store) (old new : SnapshotReader) : Type 0 where
   pub reader : IsReader store new
   pub reads : read_by new.pass.seats ≡ read_by old.pass.seats
   pub account : own_account store new ≡ own_account store old

@@ -17,6 +17,6 @@ mod scans;
 
 pub use parts::read_part;
 pub use place::ReadPlace;
-pub use reader::{Reader, join_reader, split_reader};
+pub use reader::{SnapshotReader, join_reader, split_reader};
 pub use runs::read_run;
 pub use scans::scan_reader;

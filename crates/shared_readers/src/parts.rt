@@ -8,7 +8,7 @@ ghost use Rattle.graph_model.specs.Rows.{is_below, rows};
 ghost use Rattle.shared_readers.specs.Readers.{IsReader, KeepsReading, seen_in};
 
 use crate::place::ReadPlace;
-use crate::reader::Reader;
+use crate::reader::SnapshotReader;
 use crate::runs::read_run;
 use graph_model::{Key, NoMemory, Row, Rows64};
 use shared_store::Store;
@@ -19,7 +19,7 @@ use std::sync::Wait;
 pub fn read_part(
     rt: &impl Wait,
     store: &Store,
-    reader: &mut Reader,
+    reader: &mut SnapshotReader,
     place: &mut ReadPlace<'_>,
     from: Key,
     until: Key,

@@ -13,7 +13,7 @@ use undo_chain::Snapshot;
 
 /// Whoever reads by the account of a pass: another pass, which has no transaction of its own, with the snapshot of the
 /// transaction that is read.
-pub struct Reader {
+pub struct SnapshotReader {
     /// The pass that reads, with the account that it was lent.
     pub(crate) pass: Pass,
     /// When the transaction began, and its name, by which its own writes are seen.
@@ -21,7 +21,7 @@ pub struct Reader {
 }
 
 /// Makes a reader of the open transaction, of a pass that has none. Takes no memory, and waits for nobody.
-pub fn split_reader(store: &Store, from: &mut Pass, to: Pass) -> Reader
+pub fn split_reader(store: &Store, from: &mut Pass, to: Pass) -> SnapshotReader
     requires from { IsLending store.now from.old }
     requires to { IsIdle store.now to }
     ensures from { Lends store.now from.old from.new }
@@ -34,7 +34,7 @@ pub fn split_reader(store: &Store, from: &mut Pass, to: Pass) -> Reader
     let mut pass = to;
     // From here until the reader is joined the other pass neither writes nor ends its transaction.
     split_seats(store, &mut from.seats, &mut pass.seats);
-    Reader {
+    SnapshotReader {
         pass,
         snapshot: Snapshot {
             start: begun.start,
@@ -44,7 +44,7 @@ pub fn split_reader(store: &Store, from: &mut Pass, to: Pass) -> Reader
 }
 
 /// Joins a reader with its pass, and gives back the pass that it was made of. Takes no memory, and waits for nobody.
-pub fn join_reader(store: &Store, from: &mut Pass, reader: Reader) -> Pass
+pub fn join_reader(store: &Store, from: &mut Pass, reader: SnapshotReader) -> Pass
     requires from { IsLending store.now from.old }
     requires reader { IsReader store.now reader }
     requires job { job_of reader ≡ from.old.seats.number }
@@ -52,7 +52,7 @@ pub fn join_reader(store: &Store, from: &mut Pass, reader: Reader) -> Pass
     ensures pass { IsIdle store.now result }
     ensures own { account_of store.now result ≡ own_account store.now reader }
 {
-    let Reader {
+    let SnapshotReader {
         mut pass,
         snapshot: _,
     } = reader;

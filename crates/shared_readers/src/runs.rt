@@ -11,9 +11,9 @@ ghost use Rattle.shared_readers.specs.Readers.{IsReader, KeepsReading, seen_in};
 ghost use Rattle.shared_readers.specs.Runs.{ReadsNone, ReadsTo};
 
 use crate::place::ReadPlace;
-use crate::reader::Reader;
+use crate::reader::SnapshotReader;
 use graph_model::{Key, Rows64};
-use optimistic_read::{Route, TriedRun, try_reader_run};
+use optimistic_read::{CellRoute, TriedRun, try_reader_run};
 use shared_store::Store;
 use std::hint::spin_loop;
 use std::sync::Wait;
@@ -30,7 +30,7 @@ const MOST_LOOKS: u32 = 8;
 pub fn read_run(
     rt: &impl Wait,
     store: &Store,
-    reader: &mut Reader,
+    reader: &mut SnapshotReader,
     place: &mut ReadPlace<'_>,
     from: Key,
     until: Key,
@@ -52,7 +52,7 @@ pub fn read_run(
 fn read_held(
     rt: &impl Wait,
     store: &Store,
-    reader: &mut Reader,
+    reader: &mut SnapshotReader,
     from: Key,
     until: Key,
     run: &mut Rows64,
@@ -62,7 +62,7 @@ fn read_held(
     ensures kept { KeepsReading store.now reader.old reader.new }
     ensures run { IsRunTo result (seen_in store.now reader.old) from until run.new }
 {
-    let Reader { pass, snapshot } = reader;
+    let SnapshotReader { pass, snapshot } = reader;
     pass_readers::read_run(
         rt,
         store,
@@ -79,7 +79,7 @@ fn read_held(
 /// it then.
 fn try_run(
     store: &Store,
-    reader: &mut Reader,
+    reader: &mut SnapshotReader,
     place: &mut ReadPlace<'_>,
     from: Key,
     until: Key,
@@ -126,7 +126,7 @@ fn behind(from: Key, key: Key) -> Option<Key>
 /// names.
 fn try_near(
     store: &Store,
-    reader: &mut Reader,
+    reader: &mut SnapshotReader,
     place: &mut ReadPlace<'_>,
     from: Key,
     until: Key,
@@ -150,7 +150,7 @@ fn try_near(
 /// found last.
 fn try_on(
     store: &Store,
-    reader: &mut Reader,
+    reader: &mut SnapshotReader,
     place: &mut ReadPlace<'_>,
     from: Key,
     until: Key,
@@ -193,7 +193,7 @@ fn has_moved(tried: &TriedRun) -> bool
 /// What a try to read the run in a cell has found. No key is in a cell that isn't one of the store.
 fn try_cell(
     store: &Store,
-    reader: &mut Reader,
+    reader: &mut SnapshotReader,
     cell: u32,
     from: Key,
     until: Key,
@@ -213,7 +213,7 @@ fn try_cell(
     try_reader_run(
         store,
         &mut reader.pass.seats.account,
-        &Route { cell },
+        &CellRoute { cell },
         from,
         until,
         run,

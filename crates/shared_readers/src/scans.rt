@@ -11,7 +11,7 @@ ghost use Rattle.edge_scan.specs.Steps.{IsUnderWay};
 ghost use Rattle.shared_readers.specs.Readers.{EndsWithKeys, IsReader, KeepsReading, seen_in};
 
 use crate::place::ReadPlace;
-use crate::reader::Reader;
+use crate::reader::SnapshotReader;
 use crate::runs::read_run;
 use edge_scan::step;
 use graph_model::{Cursor, Key, Rows64};
@@ -23,7 +23,7 @@ use std::sync::Wait;
 pub fn scan_reader(
     rt: &impl Wait,
     store: &Store,
-    reader: &mut Reader,
+    reader: &mut SnapshotReader,
     place: &mut ReadPlace<'_>,
     cursor: &mut Cursor,
     rows: &mut Rows64,

@@ -16,7 +16,7 @@ pub use graph_model::{
 pub use lend::Work;
 pub use rebalance_service::below::{Closed, LoadedRefusal};
 pub use sessions::{
-    Change, Committed, Neighbour, NotBegun, RetryError, Session, SessionPlace, Transaction,
+    Committed, Neighbour, NotBegun, RetryError, Session, SessionPlace, Transaction, TransactionBody,
 };
-pub use store::Store;
+pub use store::GraphStore;
 pub use txn_manager::{Config, StoreRefusal};

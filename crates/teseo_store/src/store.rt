@@ -29,7 +29,7 @@ use std::thread::Threads;
 use txn_manager::{Config, StoreRefusal};
 
 /// A graph under transactions, with its sessions, of which none works.
-pub struct Store {
+pub struct GraphStore {
     pub(crate) shared: Shared,
     pub(crate) passes: Passes,
     pub ghost some: { 1 ≤ shared.accounts.config.passes },
@@ -37,22 +37,22 @@ pub struct Store {
     pub ghost ends: { ∥ AreEnds shared passes.ends ∥₁ },
 }
 
-impl Store {
+impl GraphStore {
     /// Opens a store without vertices.
-    pub fn open(alloc: Global, config: Config) -> Result<Store, StoreRefusal>
+    pub fn open(alloc: Global, config: Config) -> Result<GraphStore, StoreRefusal>
         ensures too_large { (result ≡ Err TooLarge) ↔ (too_large config ≡ true) }
         ensures config { IfOk result (λ store. store.shared.accounts.config ≡ config) }
         ensures sessions { IfOk result (λ store. AreNew store.shared store.passes.list.items) }
     {
         match new(alloc, config) {
-            Ok((shared, passes)) => Ok(Store { shared, passes }),
+            Ok((shared, passes)) => Ok(GraphStore { shared, passes }),
             Err(refused) => Err(refused),
         }
     }
 
     /// Opens a store with a graph in it, as if session 0 had added and committed it. Where there is nothing to load it is
     /// as `open` makes it.
-    pub fn load(alloc: Global, config: Config, graph: Writes) -> Result<Store, LoadedRefusal>
+    pub fn load(alloc: Global, config: Config, graph: Writes) -> Result<GraphStore, LoadedRefusal>
         requires adds { AllByRecursion IsAdd graph }
         requires allowed { AllAllowed config.kind empty_graph graph }
         requires within { AllByRecursion IsWithinLimits graph }
@@ -62,7 +62,7 @@ impl Store {
         ensures sessions { IfOk result (λ store. AreLoaded graph store.shared store.passes.list.items) }
     {
         match loaded(alloc, config, graph) {
-            Ok((shared, passes)) => Ok(Store { shared, passes }),
+            Ok((shared, passes)) => Ok(GraphStore { shared, passes }),
             Err(refused) => Err(refused),
         }
     }
@@ -101,7 +101,7 @@ impl Store {
         ensures totals { AreTotals self.shared.accounts.config.kind
             (graph_at self.shared.accounts.config.kind result.journal (length result.journal)) result.totals }
     {
-        let Store { shared, passes } = self;
+        let GraphStore { shared, passes } = self;
         close(shared, passes)
     }
 }

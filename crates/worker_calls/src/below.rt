@@ -3,7 +3,8 @@
 pub use pass_room::PassRoom;
 pub use pass_room::below::{CellHints, LeafSwept, SweepKey, SweepTurn, sweep_step};
 pub use reader_parts::below::{
-    Closed, LoadedRefusal, MERGE_ROWS, Pass, Passes, Route, Store, Tried, TriedRun, VersionSegment,
-    close, let_go, loaded, loaded_by_threads, meet, new, route, try_has_vertex, try_run,
+    CellRoute, Closed, LoadedRefusal, MERGE_ROWS, Pass, Passes, Store, Tried, TriedRun,
+    VersionSegment, close, let_go, loaded, loaded_by_threads, meet, new, route, try_has_vertex,
+    try_run,
 };
 pub use reader_parts::scan_parts;

@@ -15,7 +15,7 @@ ghost use Rattle.reader_parts.specs.OptimisticRead.Tried.{IsValueOf};
 
 use graph_model::Key;
 use pass_room::below::CellHints;
-use reader_parts::below::{self, Pass, Route, Store, Tried, try_key};
+use reader_parts::below::{self, CellRoute, Pass, Store, Tried, try_key};
 use std::hint::spin_loop;
 use std::sync::Wait;
 
@@ -70,7 +70,7 @@ fn try_value(store: &Store, pass: &mut Pass, key: Key) -> Option<Tried>
 }
 
 /// One try.
-fn try_once(store: &Store, pass: &mut Pass, route: &Route, key: Key) -> Tried
+fn try_once(store: &Store, pass: &mut Pass, route: &CellRoute, key: Key) -> Tried
     requires opened { IsOpen store.now pass.old }
     requires cell { route.now.cell < cells_of store.now.accounts.config }
     ensures kept { KeepsOpen store.now pass.old pass.new }
@@ -80,11 +80,11 @@ fn try_once(store: &Store, pass: &mut Pass, route: &Route, key: Key) -> Tried
 }
 
 /// The cell that is likely to be the key's.
-fn likely_route(store: &Store, hints: &mut CellHints, key: Key) -> Option<Route>
+fn likely_route(store: &Store, hints: &mut CellHints, key: Key) -> Option<CellRoute>
     ensures { IfSome result (λ route. route.cell < cells_of store.now.accounts.config) }
 {
     let cell = likely_cell(store, hints, key);
-    (cell < store.index_place()).then_some(Route { cell })
+    (cell < store.index_place()).then_some(CellRoute { cell })
 }
 
 /// The number that a hint has for it, which may be of no cell.

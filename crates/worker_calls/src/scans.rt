@@ -24,7 +24,7 @@ use edge_scan::step;
 use graph_model::{Cursor, Key, Row, Rows64};
 use pass_scans::below::Rows32;
 use pass_scans::{PackedRun, read_packed};
-use reader_parts::below::{self, Pass, Route, Store, TriedRun, try_run};
+use reader_parts::below::{self, CellRoute, Pass, Store, TriedRun, try_run};
 use std::hint::spin_loop;
 use std::sync::Wait;
 
@@ -329,7 +329,7 @@ fn try_cell(
     try_run(
         store,
         &mut pass.seats,
-        &Route { cell },
+        &CellRoute { cell },
         cursor.next,
         cursor.until,
         rows,

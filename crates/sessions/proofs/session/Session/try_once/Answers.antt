@@ -22,7 +22,7 @@ returns-in-Ok-make-clause-committed g c =
         start = txn.begun.start;
         opened = account txn.engine;
         is_open = has_open g.P.SessionPlace.number txn.begun.start (account txn.engine) txn.is;
-        did_so = subst (λ r. g.C.Change.did c.args.change.now (account txn.engine) r c.make.new.self made)
+        did_so = subst (λ r. g.C.TransactionBody.did c.args.change.now (account txn.engine) r c.make.new.self made)
             c.in-Ok-make.is c.make.ensures;
       };
       commits = c.commit-session.ensures;
@@ -39,7 +39,7 @@ returns-in-Err-make-clause-stopped g c =
         start = txn.begun.start;
         opened = account txn.engine;
         is_open = has_open g.P.SessionPlace.number txn.begun.start (account txn.engine) txn.is;
-        did_so = subst (λ r. g.C.Change.did c.args.change.now (account txn.engine) r c.make.new.self made)
+        did_so = subst (λ r. g.C.TransactionBody.did c.args.change.now (account txn.engine) r c.make.new.self made)
             c.in-Err-make.is c.make.ensures;
       };
       aborts = c.abort.ensures;

@@ -1,6 +1,6 @@
 use Rattle.std.proofs.Common.{◌≤◌, subst, sym}
 use Rattle.teseo_store.proofs.PropLemmas.{are_idle}
-use Rattle.teseo_store.proofs.store.Store.run_one.Goals as goal
+use Rattle.teseo_store.proofs.store.GraphStore.run_one.Goals as goal
 
 pub work_with_last-requires-clause-idle : goal.work_with_last-requires-clause-idle
 work_with_last-requires-clause-idle g c =

@@ -1,6 +1,6 @@
 use Rattle.std.proofs.Common.{◌≤◌, length, subst, sym}
 use Rattle.teseo_store.proofs.PropLemmas.{are_idle}
-use Rattle.teseo_store.proofs.store.Store.run.Goals as goal
+use Rattle.teseo_store.proofs.store.GraphStore.run.Goals as goal
 
 pub work_on-requires-clause-idle : goal.work_on-requires-clause-idle
 work_on-requires-clause-idle g c κs within =

@@ -2,7 +2,7 @@ use mathlib.Core.List.{IsPrefix}
 use Rattle.std.proofs.Common.{subst}
 use Rattle.rebalance_service.specs.StoreRelation.Passes.{PassState}
 use Rattle.teseo_store.proofs.PropLemmas.{are_ends, are_idle}
-use Rattle.teseo_store.proofs.store.Store.close.Goals as goal
+use Rattle.teseo_store.proofs.store.GraphStore.close.Goals as goal
 
 pub close-requires-clause-passes : goal.close-requires-clause-passes
 close-requires-clause-passes c = are_idle c.args.self.shared c.args.self.passes.list.items c.args.self.idle
