@@ -89,10 +89,6 @@ module _ (kind : Kind) (leaves : ℕ) (m : Manager) (passes : List RoomyPass) (s
   pub kept_roomy : (m' : Manager) → m' ≡ record m { spare = m'.spare } → IsKept (core_of kind leaves m' passes selected served) m' rows
   kept_roomy m' same = subst (λ (c : Core). IsKept c m' rows) (sym (roomy_core m' (ap (λ (n : Manager). n.journal) same))) (kept_spare m' same)
 
-  -- nothing has changed but room
-  pub kept_back : (p : RoomyPass) (m' : Manager) → m' ≡ record m { spare = m'.spare } → p.state ≡ current core → IsKept (core_of kind leaves m' (slice_set passes selected p) selected served) m' rows
-  kept_back p m' same state = subst (λ (c : Core). IsKept c m' rows) (sym (kept_core p m' (ap (λ (n : Manager). n.journal) same) state)) (kept_spare m' same)
-
   -- ---- begin
 
   -- why a begin is refused

@@ -29,9 +29,9 @@ use Rattle.store_model.specs.Layers.{after_write}
 use Rattle.leaf_rows.specs.Readers.{Shows}
 use Rattle.leaf_rows.specs.LeafStore.Leaves.{Leaves, contents_of, has_row, weight}
 use Rattle.teseo_core.specs.Placed.{PlacesWrite}
-use Rattle.teseo_core.specs.Passes.{RoomyPass, FindsFull, Notes, Puts, noted, sighted_by, with_one_write}
+use Rattle.teseo_core.specs.Passes.{RoomyPass, FindsFull, Puts, noted, sighted_by, with_one_write}
 use Rattle.teseo_core.specs.Keeping.{states_of, core_of, IsKept}
-use Rattle.teseo_core.proofs.FieldLemmas.{put_core, kept_core, kept_back, set_same}
+use Rattle.teseo_core.proofs.FieldLemmas.{put_core, kept_core, set_same}
 use Rattle.teseo_core.proofs.KeepLemmas.{IsReader, reader_shows, reader_conflicts, kept_noted, kept_written, kept_moved}
 use Rattle.teseo_core.proofs.RoomLemmas.{vertex_there, missing_few}
 
@@ -159,13 +159,13 @@ module _ (kind : Kind) (leaves : ℕ) (m : Manager) (passes : List RoomyPass) (s
       by_case (inr p) = subst (λ e. RefusesHere core start w e new) (sym p.3) (conflicts p.1 p.0 p.2 (noted_is ∙ ap (λ e. with_current core (noted (current core) start w e)) p.3))
 
   -- a noted refusal keeps the engine, and is what the call answers
-  pub refused_kept : (refusal said : Refusal) (p p' : RoomyPass) → p.state ≡ current core → Notes p.state start w refusal said p'.state
+  pub refused_kept : (refusal : Refusal) (p p' : RoomyPass) → p.state ≡ current core → p'.state ≡ noted p.state start w refusal
       → IsKept (core_of kind leaves m (slice_set passes selected p') selected served) m rows
-  refused_kept refusal said p p' here (inl noted_is) = subst (λ c. IsKept c m rows) (sym (put_core kind leaves m passes selected served rows is p' m refl))
+  refused_kept refusal p p' here noted_is = subst (λ c. IsKept c m rows) (sym (put_core kind leaves m passes selected served rows is p' m refl))
       (kept_noted core m rows is p'.state (ap (λ (s : PassState). s.start) same ∙ starts refusal) (ap (λ (s : PassState). s.own) same ∙ owns refusal) (ap (λ (s : PassState). s.begun) same ∙ begins refusal) (ap (λ (s : PassState). s.made) same ∙ makes refusal) (ap (λ (s : PassState). s.allowed) same ∙ allows refusal))
     where
       same : p'.state ≡ noted (current core) start w refusal
-      same = noted_is.1 ∙ ap (λ s. noted s start w refusal) here
+      same = noted_is ∙ ap (λ s. noted s start w refusal) here
 
       -- a note changes what was sighted alone
       only : (e : Refusal) → noted (current core) start w e ≡ record (current core) { sighted = (noted (current core) start w e).sighted }
@@ -194,30 +194,21 @@ module _ (kind : Kind) (leaves : ℕ) (m : Manager) (passes : List RoomyPass) (s
 
       allows : (e : Refusal) → (noted (current core) start w e).allowed ≡ (current core).allowed
       allows e = ap (λ (s : PassState). s.allowed) (only e)
-  refused_kept refusal said p p' here (inr back) = kept_back kind leaves m passes selected served rows is p' m refl (back.1 ∙ here)
 
-  pub refused_answer : {X : Type 0} (result : Result X Refusal) → ((h : Graph) → Shows r rows h → FitsKind kind h → IsChecked r rows h w result) → (refusal said : Refusal) → result ≡ Err refusal
-      → (p p' : RoomyPass) → p.state ≡ current core → Notes p.state start w refusal said p'.state
-      → WritesHere core w (Err said) (core_of kind leaves m (slice_set passes selected p') selected served)
-  refused_answer result checked refusal said is_err p p' here (inl noted_is) = (
+  pub refused_answer : {X : Type 0} (result : Result X Refusal) → ((h : Graph) → Shows r rows h → FitsKind kind h → IsChecked r rows h w result) → (refusal : Refusal) → result ≡ Err refusal
+      → (p p' : RoomyPass) → p.state ≡ current core → p'.state ≡ noted p.state start w refusal
+      → WritesHere core w (Err refusal) (core_of kind leaves m (slice_set passes selected p') selected served)
+  refused_answer result checked refusal is_err p p' here noted_is = (
     start,
     opened,
-    subst (λ e. RefusesHere core start w e (core_of kind leaves m (slice_set passes selected p') selected served)) (sym noted_is.0)
-        (refuses refusal (sym (answer result checked) ∙ ap refusal_in is_err) _ (put_core kind leaves m passes selected served rows is p' m refl ∙ ap (with_current core) (noted_is.1 ∙ ap (λ s. noted s start w refusal) here))),
-  )
-  refused_answer result checked refusal said is_err p p' here (inr back) = (
-    start,
-    opened,
-    subst (λ e. RefusesHere core start w e (core_of kind leaves m (slice_set passes selected p') selected served)) (sym back.0)
-        (kept_core kind leaves m passes selected served rows is p' m refl (back.1 ∙ here)),
+    refuses refusal (sym (answer result checked) ∙ ap refusal_in is_err) _ (put_core kind leaves m passes selected served rows is p' m refl ∙ ap (with_current core) (noted_is ∙ ap (λ s. noted s start w refusal) here)),
   )
 
   -- a write that is refused so isn't full
-  pub refused_places : {X : Type 0} (result : Result X Refusal) → ((h : Graph) → Shows r rows h → FitsKind kind h → IsChecked r rows h w result) → (refusal said : Refusal) → result ≡ Err refusal
-      → (old new : PassState) → Notes old start w refusal said new → (until : ℕ) (found : WrittenRows) (a b : Leaves) → PlacesWrite until found a b (Err said)
-  refused_places result checked refusal said is_err old new (inr back) until found a b = subst (λ e. PlacesWrite until found a b (Err e)) (sym back.0) tt
-  refused_places result checked refusal said is_err old new (inl noted_is) until found a b = subst (λ e. PlacesWrite until found a b (Err e)) (sym noted_is.0)
-      (by_case (answer_cases (refused g w) (conflict_here core start w) refusal (refused_of_view g w) (sym (answer result checked) ∙ ap refusal_in is_err)))
+  pub refused_places : {X : Type 0} (result : Result X Refusal) → ((h : Graph) → Shows r rows h → FitsKind kind h → IsChecked r rows h w result) → (refusal : Refusal) → result ≡ Err refusal
+      → (until : ℕ) (found : WrittenRows) (a b : Leaves) → PlacesWrite until found a b (Err refusal)
+  refused_places result checked refusal is_err until found a b =
+      by_case (answer_cases (refused g w) (conflict_here core start w) refusal (refused_of_view g w) (sym (answer result checked) ∙ ap refusal_in is_err))
     where
       of_view : (e : Refusal) → IsOfView e → PlacesWrite until found a b (Err e)
       of_view refusals.SelfLoop is = tt

@@ -1,5 +1,5 @@
 -- What an engine of one owner keeps of a pass, with the room that it has for more.
-use Rattle.std.specs.Prelude.{◌≡◌, ◌⊎◌, ℕ, true, not, count_by, ◌+◌, ◌*◌, ◌<◌, ◌≤◌, List, [], ◌∷◌, ◌++◌, Option, None, Some, Result, Ok, Err}
+use Rattle.std.specs.Prelude.{◌≡◌, ℕ, true, not, count_by, ◌+◌, ◌*◌, ◌<◌, ◌≤◌, List, [], ◌∷◌, ◌++◌, Option, None, Some, Result, Ok, Err}
 use Rattle.graph_model.specs.declared.limits.TheConstants.{SPLIT_ROWS}
 use Rattle.graph_model.specs.declared.write.Write.{Write}
 use Rattle.graph_model.specs.declared.row.Key.{Key}
@@ -8,6 +8,7 @@ use Rattle.graph_model.specs.declared.refusal.Refusal.{Refusal}
 use Rattle.graph_model.specs.declared.refusal.Refusal.TheVariants as refusals
 use Rattle.graph_model.specs.declared.refusal.Cause.{Cause}
 use Rattle.graph_model.specs.declared.refusal.Cause.TheVariants.{Later, Holder}
+use Rattle.graph_model.specs.Account.{Sighting}
 use Rattle.graph_model.specs.AccountSteps.{last_with}
 use Rattle.graph_model.specs.OwnerCalls.{PassState, no_pass}
 use Rattle.leaf_rows.specs.LeafStore.Leaves.{Leaves, contents_of, has_row, weight}
@@ -43,6 +44,10 @@ with_load s load = record s { own = load; made = load ∷ [] }
 abbrev pub with_end : PassState → PassState
 with_end s = record s { start = None; own = [] }
 
+-- an open transaction that was met, with the write that was refused and the start of that one's transaction
+abbrev pub sighting_of : TxnName × (Write × ℕ) → Sighting
+sighting_of met = record { by = met.0; write = met.1.0; start = met.1.1 }
+
 -- an open transaction that was met is noted
 abbrev pub sighted_by : PassState → ℕ → Write → Cause → PassState
 sighted_by s start w (Later stamp) = s
@@ -59,11 +64,6 @@ noted s start w refusals.HasEdges = s
 noted s start w (refusals.Conflict cause) = sighted_by s start w cause
 noted s start w (refusals.Full leaves) = s
 noted s start w refusals.NoMemory = s
-
--- a refusal is noted, or there is no memory for the note
-abbrev pub Notes : PassState → ℕ → Write → Refusal → Refusal → PassState → Type 0
-Notes old start w refusal answer new =
-    ((answer ≡ refusal) × (new ≡ noted old start w refusal)) ⊎ ((answer ≡ refusals.NoMemory) × (new ≡ old))
 
 -- a write stands in its rows and in its pass
 pub record Laid (r : WrittenRows) (by : TxnName) (w : Write) (rows rows' : Leaves) (old new : PassState) : Type 0 where

@@ -1,12 +1,13 @@
 //! What the engine keeps of a pass.
 //!
 //! 1. The writes of the open transaction stand in one list, which goes into the journal with a commit.
-//! 2. What the ended ones have written is a history for proofs: it takes no memory, and nothing is done for it.
+//! 2. What the ended ones have written, and whom writes have met, are histories for proofs: they take no memory, and
+//!    nothing is done for them.
 
 ghost use Rattle.std.specs.Prelude.{◌≡◌, ◌<◌, [], ◌∷◌, None, IsSome, true, OnOk};
 ghost use Rattle.undo_chain.specs.declared.touched.Touched.TheVariants.{Never};
 ghost use Rattle.teseo_core.specs.Writing.{writing_since};
-ghost use Rattle.teseo_core.specs.Passes.{new_pass, with_begin, with_one_write, with_load, with_end, Notes};
+ghost use Rattle.teseo_core.specs.Passes.{new_pass, with_begin, with_one_write, with_load, with_end, noted};
 
 use graph_model::{Begun, Cause, NoMemory, Refusal, RoomyWrites, TxnName, Write, Writes};
 use http_server::Log;
@@ -16,32 +17,13 @@ use std::marker::Model;
 use std::mem::replace;
 use undo_chain::Touched;
 
-/// A write that was refused since another transaction was open.
-#[derive(Drop)]
-pub struct Sighted {
-    /// Who was open.
-    by: TxnName,
-    /// The write that was refused.
-    write: Write,
-    /// The start of the transaction that made it.
-    start: u64,
-}
-
-impl Model for Sighted {
-    ghost use Rattle.graph_model.specs.Account.{Sighting};
-
-    ghost Value = { Sighting };
-
-    ghost view = { λ s. record { by = s.by; write = s.write; start = s.start } };
-}
-
 /// The transactions of a pass with their writes, the latest of which may be open.
 #[derive(Drop)]
-pub struct Pass {
+pub struct OwnerPass {
     /// What each ended transaction has written, with its number.
     made: Log<u32, Writes>,
-    /// Whom its writes have met.
-    sighted: Vec<Sighted>,
+    /// The open transactions that its writes have met, each with the write that was refused and that one's start.
+    sighted: Log<TxnName, (Write, u64)>,
     /// None where no transaction is open.
     start: Option<u64>,
     /// The writes of the open transaction.
@@ -54,16 +36,16 @@ pub struct Pass {
     allowed: u32,
 }
 
-impl Model for Pass {
+impl Model for OwnerPass {
     ghost use Rattle.std.specs.Prelude.{◌≡◌, [], None, IfNone, map};
-    ghost use Rattle.teseo_core.specs.Passes.{RoomyPass, made_with};
+    ghost use Rattle.teseo_core.specs.Passes.{RoomyPass, made_with, sighting_of};
 
     ghost Value = { RoomyPass };
 
     ghost view = { λ p. record {
       state = record {
         made = made_with p.start (map (λ ended. ended.1) p.made.items) p.own.items;
-        sighted = p.sighted.items;
+        sighted = map sighting_of p.sighted.items;
         start = p.start;
         own = p.own.items;
         filled = p.filled;
@@ -76,14 +58,14 @@ impl Model for Pass {
     ghost invariant = { λ p. IfNone p.start (p.own.items ≡ []) };
 }
 
-impl Pass {
+impl OwnerPass {
     /// A pass that has begun nothing.
-    pub fn new(alloc: Global, allowed: u32) -> Pass
+    pub fn new(alloc: Global, allowed: u32) -> OwnerPass
         ensures { result.state ≡ new_pass allowed }
     {
-        Pass {
+        OwnerPass {
             made: Log::new(),
-            sighted: Vec::new(alloc),
+            sighted: Log::new(),
             start: None,
             own: RoomyItems::new(alloc),
             filled: false,
@@ -164,22 +146,16 @@ impl Pass {
         self.start = None;
     }
 
-    /// Notes what a refused write has met, and answers the refusal. Where memory runs out for the note,
-    /// that is the refusal.
-    pub fn note_refusal(&mut self, start: u64, write: Write, refusal: Refusal) -> Refusal
-        ensures { Notes self.old.state start write refusal result self.new.state }
+    /// Notes whom a refused write has met, if that is an open transaction.
+    pub fn note_refusal(&mut self, start: u64, write: Write, refusal: &Refusal)
+        ensures { self.new.state ≡ noted self.old.state start write refusal.now }
     {
         if let Refusal::Conflict {
             cause: Cause::Holder { by },
         } = refusal
         {
-            // A cause that can't be noted isn't named: each one that is has to be matched when the run is over.
-            match self.sighted.push(Sighted { by, write, start }) {
-                Ok(()) => {}
-                Err(_) => return Refusal::NoMemory,
-            }
+            self.sighted = self.sighted.and(by, &(write, start));
         }
-        refusal
     }
 
     /// Notes that a write found the store full.

@@ -6,7 +6,7 @@ ghost use Rattle.std.specs.Prelude.{◌≡◌, [], true};
 ghost use Rattle.leaf_rows.specs.LeafStore.Leaves.{record_count};
 ghost use Rattle.teseo_core.specs.Keeping.{IsSettled, KeepsService, NoneOpen};
 
-use crate::pass::Pass;
+use crate::pass::OwnerPass;
 use crate::store::Core;
 use graph_model::{Journal, Kind};
 use leaf_rows::{LeafRows, STAMPS_END};
@@ -23,7 +23,7 @@ pub struct CoreJournal {
     /// How many leaves the store had.
     leaves: u32,
     /// By number.
-    passes: Vec<Pass>,
+    passes: Vec<OwnerPass>,
     /// The one that calls spoke of last.
     selected: u32,
     /// How many turns of the service there were.

@@ -13,7 +13,7 @@ ghost use Rattle.teseo_core.specs.Passes.{new_pass};
 ghost use Rattle.teseo_core.specs.Writing.{writing_since};
 ghost use Rattle.teseo_core.specs.Keeping.{IsNewStore, KeepsService, states_of};
 
-use crate::pass::Pass;
+use crate::pass::OwnerPass;
 use crate::serve::ServiceTurn;
 use crate::sweep::SweepStart;
 use graph_model::{BeginRefusal, Begun, Commit, Kind, NoMemory, TxnName};
@@ -33,7 +33,7 @@ pub struct Core {
     /// The journal, and where transactions stand.
     pub(crate) manager: TxnManager,
     /// By number.
-    pub(crate) passes: Vec<Pass>,
+    pub(crate) passes: Vec<OwnerPass>,
     /// The one that the next calls speak of.
     pub(crate) selected: u32,
     /// How many turns of the service there were.
@@ -168,18 +168,18 @@ impl Core {
 }
 
 /// So many passes that have begun nothing.
-fn new_passes(alloc: Global, count: u32, allowed: u32) -> Result<Vec<Pass>, NoMemory>
+fn new_passes(alloc: Global, count: u32, allowed: u32) -> Result<Vec<OwnerPass>, NoMemory>
     ensures { IfOk result (λ passes. states_of passes.items ≡ replicate count (new_pass allowed)) }
 {
     let mut passes = Vec::new(alloc);
     'passes: for _ in 0..count {
-        passes.push(Pass::new(alloc, allowed))?;
+        passes.push(OwnerPass::new(alloc, allowed))?;
     }
     Ok(passes)
 }
 
 /// The name of a pass's latest transaction.
-pub(crate) fn name_of(pass: &Pass, job: u32) -> TxnName
+pub(crate) fn name_of(pass: &OwnerPass, job: u32) -> TxnName
     ensures { result ≡ record { job = job; number = pass.now.state.begun } }
 {
     TxnName {
@@ -189,7 +189,7 @@ pub(crate) fn name_of(pass: &Pass, job: u32) -> TxnName
 }
 
 /// Who reads: the open transaction of a pass.
-pub(crate) fn reader_of<'a>(manager: &'a TxnManager, pass: &Pass, job: u32) -> Reader<'a>
+pub(crate) fn reader_of<'a>(manager: &'a TxnManager, pass: &OwnerPass, job: u32) -> Reader<'a>
     requires { IsSome pass.now.state.start }
     ensures manager { result.manager.now ≡ manager.now }
     ensures start { pass.now.state.start ≡ Some result.start }

@@ -21,7 +21,7 @@ ghost use Rattle.teseo_core.specs.Keeping.{KeepsService};
 ghost use Rattle.teseo_core.specs.Passes.{Laid, Puts};
 
 use crate::free::free_bound;
-use crate::pass::Pass;
+use crate::pass::OwnerPass;
 use crate::store::{Core, reader_of};
 use graph_model::{Key, NoMemory, Refusal, TxnName, Write};
 use leaf_rows::{FoundInLeaves, LeafRows};
@@ -88,7 +88,10 @@ impl Core {
         // Before room is made: a write that is refused moves no row, so it can't slow down others.
         match self.rows.check(self.kind, &reader, write, &found.near) {
             Ok(()) => {}
-            Err(refusal) => return Err(self.passes[pass].note_refusal(start, write, refusal)),
+            Err(refusal) => {
+                self.passes[pass].note_refusal(start, write, &refusal);
+                return Err(refusal);
+            }
         }
         // Below it no open transaction has begun, so leaves that were retired before may be taken again, if this write
         // needs one.
@@ -109,7 +112,7 @@ impl Core {
 /// Makes room for the rows of a write that may be made, and makes it.
 fn put(
     rows: &mut LeafRows,
-    pass: &mut Pass,
+    pass: &mut OwnerPass,
     by: TxnName,
     write: Write,
     found: &FoundInLeaves,
@@ -143,7 +146,7 @@ fn put(
 /// Puts a write into its rows and notes it in its pass.
 fn lay(
     rows: &mut LeafRows,
-    pass: &mut Pass,
+    pass: &mut OwnerPass,
     by: TxnName,
     write: Write,
     found: &FoundInLeaves,

@@ -1,4 +1,4 @@
-use Rattle.std.proofs.Common.{ℕ, sym, ◌∙◌, ap, subst}
+use Rattle.std.proofs.Common.{◌≡◌, ℕ, sym, ◌∙◌, ap, subst}
 use Rattle.graph_model.specs.OwnerCalls.{current}
 use Rattle.leaf_rows.specs.RowWritesDeclared.written.WrittenRows.{WrittenRows}
 use Rattle.leaf_rows.specs.Held.{rows_in}
@@ -6,7 +6,7 @@ use Rattle.leaf_rows.specs.Laying.{HaveRows}
 use Rattle.leaf_rows.specs.RowWrites.Written.{AreRows, touched_keys}
 use Rattle.leaf_rows.proofs.RowWrites.WrittenLemmas.{are_rows, have_rows}
 use Rattle.teseo_core.specs.Freeing.{free_bound}
-use Rattle.teseo_core.specs.Passes.{Notes}
+use Rattle.teseo_core.specs.Passes.{noted}
 use Rattle.teseo_core.specs.Keeping.{core_of}
 use Rattle.teseo_core.proofs.FieldLemmas.{is_open_here, lent_state, start_of, some_nat}
 use Rattle.teseo_core.proofs.KeepLemmas.{IsReader, reader_started, touched_none}
@@ -27,8 +27,8 @@ invariant_of-self c =
       by = r.ensures.by ∙ (λ i. record { job = f.selected; number = (sym here i).begun });
     } in
     let last = lent_state f.passes.items f.selected c.index_mut.result.now c.self.invariant.chosen c.index_mut.ensures.value in
-    refused_kept f.kind f.leaves f.manager f.passes.items f.selected f.served f.rows c.self.invariant r.result start.0 start.1 reader c.args.write c.in-Err.refusal c.note_refusal.result c.index_mut.result.now c.note_refusal.new.self (sym last)
-    (subst (λ (s : ℕ). Notes c.index_mut.result.now.state s c.args.write c.in-Err.refusal c.note_refusal.result c.note_refusal.new.self.state) reader.start_is c.note_refusal.ensures)
+    refused_kept f.kind f.leaves f.manager f.passes.items f.selected f.served f.rows c.self.invariant r.result start.0 start.1 reader c.args.write c.in-Err.refusal c.index_mut.result.now c.note_refusal.new.self (sym last)
+    (subst (λ (s : ℕ). c.note_refusal.new.self.state ≡ noted c.index_mut.result.now.state s c.args.write c.in-Err.refusal) reader.start_is c.note_refusal.ensures)
 
 pub returns-in-Err-clause-did : goal.returns-in-Err-clause-did
 returns-in-Err-clause-did c =
@@ -43,10 +43,10 @@ returns-in-Err-clause-did c =
       by = r.ensures.by ∙ (λ i. record { job = f.selected; number = (sym here i).begun });
     } in
     let last = lent_state f.passes.items f.selected c.index_mut.result.now c.self.invariant.chosen c.index_mut.ensures.value in
-    let notes = subst (λ (s : ℕ). Notes c.index_mut.result.now.state s c.args.write c.in-Err.refusal c.note_refusal.result c.note_refusal.new.self.state) reader.start_is c.note_refusal.ensures in
+    let notes = subst (λ (s : ℕ). c.note_refusal.new.self.state ≡ noted c.index_mut.result.now.state s c.args.write c.in-Err.refusal) reader.start_is c.note_refusal.ensures in
     rw (← c.self.view_is) (record {
       chosen = c.self.invariant.chosen;
-      here = refused_answer f.kind f.leaves f.manager f.passes.items f.selected f.served f.rows c.self.invariant r.result start.0 start.1 reader c.args.write c.check.result c.check.ensures c.in-Err.refusal c.note_refusal.result c.in-Err.is c.index_mut.result.now c.note_refusal.new.self (sym last) notes;
+      here = refused_answer f.kind f.leaves f.manager f.passes.items f.selected f.served f.rows c.self.invariant r.result start.0 start.1 reader c.args.write c.check.result c.check.ensures c.in-Err.refusal c.in-Err.is c.index_mut.result.now c.note_refusal.new.self (sym last) notes;
       legal = c.self.invariant.store.transactions.legal;
     })
 
@@ -162,11 +162,10 @@ returns-in-Err-clause-places c =
       start_is = some_nat r.result.start start.0 (sym r.ensures.start ∙ ap (λ s. s.start) (sym here) ∙ start.1);
       by = r.ensures.by ∙ (λ i. record { job = f.selected; number = (sym here i).begun });
     } in
-    let notes = subst (λ (s : ℕ). Notes c.index_mut.result.now.state s c.args.write c.in-Err.refusal c.note_refusal.result c.note_refusal.new.self.state) reader.start_is c.note_refusal.ensures in
     rw (← c.self.view_is) (
       free_bound f.manager,
       is_free_bound core f.manager c.self.invariant.tied c.is_managed.ensures,
-      refused_places f.kind f.leaves f.manager f.passes.items f.selected f.served f.rows c.self.invariant r.result start.0 start.1 reader c.args.write c.check.result c.check.ensures c.in-Err.refusal c.note_refusal.result c.in-Err.is _ _ notes _ _ _ _,
+      refused_places f.kind f.leaves f.manager f.passes.items f.selected f.served f.rows c.self.invariant r.result start.0 start.1 reader c.args.write c.check.result c.check.ensures c.in-Err.refusal c.in-Err.is _ _ _ _,
     )
 
 pub returns-clause-places : goal.returns-clause-places
