@@ -25,7 +25,7 @@ mod settle;
 
 pub use edges::any_with;
 pub use held::{FoundInLeaves, LeafFingers};
-pub use leaf_store::{Pruned, STAMPS_END, SoughtKeys};
+pub use leaf_store::{Pruned, STAMPS_END};
 pub use reader::Reader;
 pub use row_writes::{EndKeys, WrittenRows};
 pub use rows::{LeafRows, SeenCounts};

@@ -9,7 +9,7 @@ ghost use Rattle.row_writes.specs.Written.{rows_of};
 use crate::held::{FoundInLeaves, LeafFingers};
 use crate::rows::LeafRows;
 use graph_model::{Kind, Write};
-use leaf_store::{Finger, SoughtKeys};
+use leaf_store::Finger;
 use row_writes::{EndKeys, WrittenRows};
 
 impl LeafRows {
@@ -28,14 +28,6 @@ impl LeafRows {
             },
         };
         FoundInLeaves { rows, near }
-    }
-
-    /// Reads ahead what finding the rows of some writes will read, for all of them side by side. Nothing that contracts
-    /// see changes.
-    pub fn read_ahead(&mut self, writes: &mut [SoughtKeys])
-        ensures { self.new ≡ self.old }
-    {
-        self.store.read_ahead(writes);
     }
 
     /// Finds the rows of an edge and of its ends side by side.

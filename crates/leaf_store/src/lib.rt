@@ -23,7 +23,7 @@ mod spread;
 mod store;
 mod work;
 
-pub use leaf_table::{Finger, SoughtKeys};
+pub use leaf_table::Finger;
 pub use pair::{MERGE_ROWS, STAMPS_END};
 pub use split::split_entry;
 pub use store::{KeyRange, LeafStore, Pruned};

@@ -1,7 +1,7 @@
 //! Leaves by their numbers, under an index.
 //!
-//! 1. The four cells of a write, or of several, are read ahead, so that they wait for memory side by side. Kept is the
-//!    sum of what was read, in `ahead` (`leaf_table::ahead` says why that is harmless).
+//! 1. Four cells are read ahead, so that they wait for memory side by side. Kept is the sum of what was read, in
+//!    `ahead` (`leaf_table::ahead` says why that is harmless).
 //! 2. A leaf has all keys of its range and no others, so whoever goes by ranges comes to each leaf once.
 
 ghost use Rattle.std.specs.Prelude.{◌≡◌, ◌≤◌, ◌-◌, true, false, length, IfOk};
@@ -18,7 +18,7 @@ use leaf_index::LeafIndex;
 use leaf_queue::LeafQueue;
 use leaf_table::below::{Leaf, NOWHERE, VersionSegment};
 use leaf_table::{
-    Finger, SoughtKeys, count_with_memory, cuts_of, empty_table, fingers_at, put_leaf, sum_ahead,
+    Finger, Place, count_with_memory, cuts_of, empty_table, fingers_at, put_leaf, sum_ahead,
     sum_leaf_ahead,
 };
 use std::alloc::Global;
@@ -114,20 +114,21 @@ impl LeafStore {
     pub fn find_four(&mut self, keys: [Key; 4], rows_come: bool) -> [Finger; 4]
         ensures { self.new ≡ self.old }
     {
-        let mut write = [SoughtKeys::new(keys, rows_come)];
-        self.read_ahead(&mut write);
-        fingers_at(&self.leaves, keys, write[0].cells)
-    }
-
-    /// Reads ahead what the calls to come will read for some writes, for all of them side by side, and has each know
-    /// its cells.
-    pub fn read_ahead(&mut self, writes: &mut [SoughtKeys])
-        ensures { self.new ≡ self.old }
-    {
-        find_leaves(&mut self.index, writes);
-        let with_memory = count_with_memory(&self.leaves, writes);
-        find_cells(&self.index, writes);
-        self.ahead = with_memory.wrapping_add(sum_ahead(&self.leaves, writes));
+        let likely = self.index.likely_leaves(keys);
+        self.ahead = count_with_memory(&self.leaves, likely);
+        let cells = [
+            self.index.route_in(keys[0], likely[0]).cell,
+            self.index.route_in(keys[1], likely[1]).cell,
+            self.index.route_in(keys[2], likely[2]).cell,
+            self.index.route_in(keys[3], likely[3]).cell,
+        ];
+        self.ahead = self.ahead.wrapping_add(sum_ahead(
+            &self.leaves,
+            keys,
+            cells.map(Place::of_cell),
+            rows_come,
+        ));
+        fingers_at(&self.leaves, keys, cells)
     }
 
     /// Reads ahead the changed rows of the leaf that has the key, as for one. Answers where its first cell is.
@@ -167,28 +168,6 @@ impl LeafStore {
             Some(leaf) => &leaf.segments[place.segment],
             None => unreachable!(),
         }
-    }
-}
-
-/// The leaves in which the keys of some writes are likely to be, whose slots are read ahead.
-fn find_leaves(index: &mut LeafIndex, writes: &mut [SoughtKeys])
-    ensures { index.new ≡ index.old }
-{
-    'writes: for write in writes.iter_mut() {
-        write.leaves = index.likely_leaves(write.keys);
-    }
-}
-
-/// The cells of the keys of some writes.
-fn find_cells(index: &LeafIndex, writes: &mut [SoughtKeys]) {
-    'writes: for write in writes.iter_mut() {
-        let [first, second, third, fourth] = write.keys;
-        write.cells = [
-            index.route_in(first, write.leaves[0]).cell,
-            index.route_in(second, write.leaves[1]).cell,
-            index.route_in(third, write.leaves[2]).cell,
-            index.route_in(fourth, write.leaves[3]).cell,
-        ];
     }
 }
 

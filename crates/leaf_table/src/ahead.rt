@@ -2,9 +2,8 @@
 //!
 //! 1. A write waits for memory most of the time: for where the leaf of each of its cells lies, then for what the cell
 //!    says of itself, and then for its rows.
-//! 2. Here each of these is read for all cells of some writes before the next one is. So the processor asks the memory
-//!    for all cells at once, and finds them near by when the calls come. Where leaves lie is read beside their slots in
-//!    the index.
+//! 2. Here each of these is read for four cells before the next one is. So the processor asks the memory for all four
+//!    at once, and finds them near by when the calls come. Where leaves lie is read beside their slots in the index.
 //! 3. Kept is one sum of what was read, in the store, so that no compiler leaves the reads out. It can't be wrong,
 //!    since nobody asks for it, and no clause sees it. It costs eight bytes, and some loads for a write whose rows lie
 //!    near by already.
@@ -15,85 +14,37 @@ use graph_model::Key;
 use leaf_array::Leaf;
 use leaf_array::below::{NOWHERE, VersionSegment};
 
-/// Four keys that a write looks for, and where.
-#[derive(Clone, Copy, Debug)]
-pub struct SoughtKeys {
-    /// The keys. If rows come, they come into the cells of the first two.
-    pub keys: [Key; 4],
-    /// Whether rows come.
-    pub rows_come: bool,
-    /// The leaves in which the keys are likely to be.
-    pub leaves: [u32; 4],
-    /// Their cells, as the index has them.
-    pub cells: [u32; 4],
+/// How many of four leaves have memory, which takes a look at where each of them lies.
+pub fn count_with_memory(leaves: &Vec<Option<Box<Leaf>>>, likely: [u32; 4]) -> u64 {
+    sum_of(likely.map(|leaf| match leaves.get(leaf as usize) {
+        Some(Some(_)) => 1,
+        _ => 0,
+    }))
 }
 
-impl SoughtKeys {
-    /// Keys of which neither leaves nor cells are known.
-    pub fn new(keys: [Key; 4], rows_come: bool) -> SoughtKeys {
-        SoughtKeys {
-            keys,
-            rows_come,
-            leaves: [0; 4],
-            cells: [0; 4],
-        }
+/// The sum of what four cells have. Nobody asks for it: it is kept so that no compiler leaves out the reads. Where rows
+/// come into the first two, it takes more of them, and how many rows their leaves have.
+pub fn sum_ahead(
+    leaves: &Vec<Option<Box<Leaf>>>,
+    keys: [Key; 4],
+    places: [Place; 4],
+    rows_come: bool,
+) -> u64 {
+    let cells = places.map(|place| cell_at(leaves, place));
+    let mut sum = sum_of(cells.map(rows_in));
+    if rows_come {
+        sum = sum
+            .wrapping_add(rows_at(leaves, places[0]))
+            .wrapping_add(rows_at(leaves, places[1]));
     }
-}
-
-/// How many of the likely leaves have memory, which takes a look at where each of them lies.
-pub fn count_with_memory(leaves: &Vec<Option<Box<Leaf>>>, writes: &[SoughtKeys]) -> u64 {
-    let mut count: u64 = 0;
-    'writes: for write in writes {
-        count = count.wrapping_add(sum_of(
-            write.leaves.map(|leaf| match leaves.get(leaf as usize) {
-                Some(Some(_)) => 1,
-                _ => 0,
-            }),
-        ));
-    }
-    count
-}
-
-/// The sum of what the cells of some writes have. Nobody asks for it: it is kept so that no compiler leaves out the
-/// reads. Where rows come into two cells of a write, it takes more of them, and how many rows their leaves have.
-pub fn sum_ahead(leaves: &Vec<Option<Box<Leaf>>>, writes: &[SoughtKeys]) -> u64 {
-    let mut sum: u64 = 0;
-    'counts: for write in writes {
-        sum = sum.wrapping_add(sum_of(cells_of(leaves, write).map(rows_in)));
-        if write.rows_come {
-            sum = sum
-                .wrapping_add(rows_at(leaves, Place::of_cell(write.cells[0])))
-                .wrapping_add(rows_at(leaves, Place::of_cell(write.cells[1])));
-        }
-    }
-    'cells: for write in writes {
-        sum = sum.wrapping_add(sum_of(cells_of(leaves, write).map(sum_in)));
-    }
-    'rows: for write in writes {
-        sum = sum.wrapping_add(sum_near(cells_of(leaves, write), write));
-    }
-    sum
-}
-
-/// The cells of four keys, where there are such.
-fn cells_of<'a>(
-    leaves: &'a Vec<Option<Box<Leaf>>>,
-    write: &SoughtKeys,
-) -> [Option<&'a VersionSegment>; 4] {
-    write
-        .cells
-        .map(|cell| cell_at(leaves, Place::of_cell(cell)))
-}
-
-/// The sum of what is read ahead of the rows near four keys.
-fn sum_near(cells: [Option<&VersionSegment>; 4], write: &SoughtKeys) -> u64 {
-    let [first, second, third, fourth] = write.keys;
-    sum_of([
-        near_in(cells[0], first, write.rows_come),
-        near_in(cells[1], second, write.rows_come),
-        near_in(cells[2], third, false),
-        near_in(cells[3], fourth, false),
-    ])
+    sum = sum.wrapping_add(sum_of(cells.map(sum_in)));
+    let near = [
+        near_in(cells[0], keys[0], rows_come),
+        near_in(cells[1], keys[1], rows_come),
+        near_in(cells[2], keys[2], false),
+        near_in(cells[3], keys[3], false),
+    ];
+    sum.wrapping_add(sum_of(near))
 }
 
 /// The sum of what the changed rows of a leaf's cells have, for whoever goes over all of them.

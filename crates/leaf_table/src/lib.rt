@@ -13,7 +13,7 @@ mod look;
 mod place;
 mod table;
 
-pub use ahead::{SoughtKeys, count_with_memory, fingers_at, sum_ahead, sum_leaf_ahead};
+pub use ahead::{count_with_memory, fingers_at, sum_ahead, sum_leaf_ahead};
 pub use fill::{FULL_LEAF, begin_of, leaf_or_new, leaves_from, settled_leaf};
 pub use finger::Finger;
 pub use look::{counts_of, cuts_of};
