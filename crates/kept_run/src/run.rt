@@ -70,7 +70,7 @@ pub fn run_scripts_kept<R: Threads + Sync, K: Disk>(
     engine.settle();
     let totals = engine.totals();
     Ok(RunResult {
-        ran: Ran::Stepped(engine.into_journal()),
+        ran: Ran::Stepped(engine.into_journal(rt)),
         jobs,
         totals,
     })

@@ -81,7 +81,7 @@ pub fn run_by_turns<R: Threads + Sync>(
     engine.settle();
     let totals = engine.totals();
     Ok(SteppedRun {
-        ran: engine.into_journal(),
+        ran: engine.into_journal(rt),
         jobs,
         totals,
     })
