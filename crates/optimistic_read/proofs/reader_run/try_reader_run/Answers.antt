@@ -1,4 +1,4 @@
-use Rattle.optimistic_read.proofs.RunLemmas.{run_is}
+use Rattle.optimistic_read.proofs.AnswerLemmas.{run_is}
 use Rattle.optimistic_read.proofs.reader_run.try_reader_run.Goals as goal
 
 pub returns-clause-run : goal.returns-clause-run

@@ -1,6 +1,6 @@
 use Rattle.std.proofs.Common.{◌≡◌, ◌%◌, arith}
 use Rattle.optimistic_read.specs.Runs.{IsRunLoaded}
-use Rattle.optimistic_read.proofs.RunLemmas.{run_answered}
+use Rattle.optimistic_read.proofs.AnswerLemmas.{run_answered}
 use Rattle.optimistic_read.proofs.TryLemmas.{valid_now}
 use Rattle.optimistic_read.proofs.scan.try_block_run.Goals as goal
 

@@ -1,6 +1,6 @@
 use Rattle.pass_steps.specs.StoreRelation.Passes.{name_at}
 use Rattle.pass_steps.specs.Passes.{state_of}
-use Rattle.optimistic_read.proofs.RunLemmas.{run_is}
+use Rattle.optimistic_read.proofs.AnswerLemmas.{run_is}
 use Rattle.optimistic_read.proofs.scan.try_run.Goals as goal
 
 pub returns-clause-run : goal.returns-clause-run
