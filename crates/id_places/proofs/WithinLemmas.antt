@@ -1,7 +1,6 @@
 -- Numbers differ where those up to a third one differ, and those above it.
-use Rattle.std.proofs.Common.{◌≡◌, ℕ, ◌+◌, ◌≤◌, ◌<◌, ◌==◌, Bool, true, false, List, [], ◌∷◌, cond, get_or, suc, refl, ap, subst, arith}
-use Rattle.std.specs.Prelude.{◌&&◌, nat_le, IfOk, Ok, Err}
-use Rattle.std.specs.Bool.{OnTrue}
+use Rattle.std.proofs.Common.{◌≡◌, ℕ, ◌+◌, ◌≤◌, ◌<◌, ◌==◌, Bool, true, false, List, [], ◌∷◌, cond, get_or, suc, refl, sym, true≢false, ap, subst, arith}
+use Rattle.std.specs.Prelude.{◌&&◌, ◌↔◌, nat_le, IfOk, Ok, Err}
 use Rattle.std.specs.declared.result.Result.{Result}
 use Rattle.std.specs.List.{IsDistinct, AllByRecursion}
 use Rattle.std.proofs.lemmas.Bool.Decides.{nat_tests}
@@ -76,12 +75,49 @@ distinct_both low mid last (x ∷ xs) first second =
     by_tests true false true true fs hs gs m_is n_is first second on near far = (far n_is second.0, on first second.1)
     by_tests true false false true fs hs gs m_is n_is first second on near far = absurd (neither m_is n_is)
 
--- what both parts of a range tell
-pub told_both : (E : Type 0) (told : Result Bool E) (low mid last : ℕ) (xs : List ℕ) → IfOk told (λ differ. OnTrue differ (IsDistinct same_number (numbers_within low mid xs)))
-    → IfOk told (λ differ. OnTrue differ (IsDistinct same_number (numbers_within (mid + 1) last xs))) → IfOk told (λ differ. OnTrue differ (IsDistinct same_number (numbers_within low last xs)))
-told_both E (Err refused) low mid last xs first second = tt
-told_both E (Ok false) low mid last xs first second = tt
-told_both E (Ok true) low mid last xs first second = distinct_both low mid last xs first second
+-- numbers of a range that differ do so in a part of it
+apart_tail : (t : Bool) (x y : ℕ) (ys : List ℕ) → AreApart x (cond t (y ∷ ys) ys) → AreApart x ys
+apart_tail true x y ys apart = apart.1
+apart_tail false x y ys apart = apart
+
+module _ (low last from upto : ℕ) (begins : low ≤ from) (ends : upto ≤ last) where
+  is_in : (y : ℕ) → (nat_le from y && nat_le y upto) ≡ true → (nat_le low y && nat_le y last) ≡ true
+  is_in y within = grind (arith, nat_tests, begins, ends, within)
+
+  part_apart : (x : ℕ) (ys : List ℕ) → AreApart x (numbers_within low last ys) → AreApart x (numbers_within from upto ys)
+  part_apart x [] apart = tt
+  part_apart x (y ∷ ys) apart =
+      by_tests (nat_le low y && nat_le y last) (nat_le from y && nat_le y upto) (numbers_within low last ys) (numbers_within from upto ys) (is_in y) apart (part_apart x ys)
+    where
+      by_tests : (t u : Bool) (fs gs : List ℕ) → (u ≡ true → t ≡ true) → AreApart x (cond t (y ∷ fs) fs) → (AreApart x fs → AreApart x gs) → AreApart x (cond u (y ∷ gs) gs)
+      by_tests true true fs gs in_both apart on = (apart.0, on apart.1)
+      by_tests false true fs gs in_both apart on = absurd (true≢false (sym (in_both refl)))
+      by_tests t false fs gs in_both apart on = on (apart_tail t x y fs apart)
+
+  pub distinct_part : (xs : List ℕ) → IsDistinct same_number (numbers_within low last xs) → IsDistinct same_number (numbers_within from upto xs)
+  unfolding IsDistinct
+  distinct_part [] distinct = tt
+  distinct_part (x ∷ xs) distinct =
+      by_tests (nat_le low x && nat_le x last) (nat_le from x && nat_le x upto) (numbers_within low last xs) (numbers_within from upto xs) (is_in x) distinct (distinct_part xs) (part_apart x xs)
+    where
+      by_tests : (t u : Bool) (fs gs : List ℕ) → (u ≡ true → t ≡ true) → IsDistinct same_number (cond t (x ∷ fs) fs)
+          → (IsDistinct same_number fs → IsDistinct same_number gs) → (AreApart x fs → AreApart x gs) → IsDistinct same_number (cond u (x ∷ gs) gs)
+      by_tests true true fs gs in_both distinct on apart_on = (apart_on distinct.0, on distinct.1)
+      by_tests false true fs gs in_both distinct on apart_on = absurd (true≢false (sym (in_both refl)))
+      by_tests t false fs gs in_both distinct on apart_on = on (tail_of t x fs distinct)
+
+-- numbers of a range differ where those of both parts do
+pub told_both : (E : Type 0) (told : Result Bool E) (low mid last : ℕ) (xs : List ℕ) → low ≤ mid → mid < last
+    → IfOk told (λ differ. (differ ≡ true) ↔ (IsDistinct same_number (numbers_within low mid xs) × IsDistinct same_number (numbers_within (mid + 1) last xs)))
+    → IfOk told (λ differ. (differ ≡ true) ↔ IsDistinct same_number (numbers_within low last xs))
+told_both E (Err refused) low mid last xs begins ends both = tt
+told_both E (Ok differ) low mid last xs begins ends both = (
+  λ told. let parts = both.0 told in distinct_both low mid last xs parts.0 parts.1,
+  λ distinct. both.1 (
+    distinct_part low last low mid (omega arith) (omega (arith, ends)) xs distinct,
+    distinct_part low last (mid + 1) last (omega (arith, begins)) (omega arith) xs distinct,
+  ),
+)
 
 -- numbers that are no greater than the last one are all of them
 all_within : (last : ℕ) (ns : List ℕ) → ((i : ℕ) → get_or ns i 0 ≤ last) → numbers_within 0 last ns ≡ ns
@@ -91,6 +127,6 @@ all_within last (n ∷ ns) each = rw (within n (each 0)) (ap (λ ns. n ∷ ns) (
     within : (n : ℕ) → n ≤ last → (nat_le 0 n && nat_le n last) ≡ true
     within n le = grind (arith, nat_tests, le)
 
-pub told_all : (E : Type 0) (told : Result Bool E) (last : ℕ) (ns : List ℕ) → ((i : ℕ) → get_or ns i 0 ≤ last) → IfOk told (λ differ. OnTrue differ (IsDistinct same_number (numbers_within 0 last ns)))
-    → IfOk told (λ differ. OnTrue differ (IsDistinct same_number ns))
-told_all E told last ns each = subst (λ xs. IfOk told (λ differ. OnTrue differ (IsDistinct same_number xs))) (all_within last ns each)
+pub told_all : (E : Type 0) (told : Result Bool E) (last : ℕ) (ns : List ℕ) → ((i : ℕ) → get_or ns i 0 ≤ last) → IfOk told (λ differ. (differ ≡ true) ↔ IsDistinct same_number (numbers_within 0 last ns))
+    → IfOk told (λ differ. (differ ≡ true) ↔ IsDistinct same_number ns)
+told_all E told last ns each = subst (λ xs. IfOk told (λ differ. (differ ≡ true) ↔ IsDistinct same_number xs)) (all_within last ns each)

@@ -4,8 +4,7 @@
 //!    sorting.
 //! 2. Numbers of edges stand in no order, and there are many: several threads sort those of a range each.
 
-ghost use Rattle.std.specs.Prelude.{◌==◌, ℕ, IfOk};
-ghost use Rattle.std.specs.Bool.{OnTrue};
+ghost use Rattle.std.specs.Prelude.{◌≡◌, ◌==◌, ◌↔◌, ℕ, IfOk, true};
 ghost use Rattle.std.specs.List.{IsDistinct};
 ghost use Rattle.std.specs.List.Sorted.{IsStrictlyIncreasing};
 
@@ -20,7 +19,7 @@ const LEAST_NUMBERS: usize = 65536;
 
 /// Whether no number stands twice. Sorts them, unless they rise as they stand.
 pub fn are_distinct(numbers: Vec<u64>) -> bool
-    ensures { OnTrue result (IsDistinct (λ (x y : ℕ). x == y) numbers.items) }
+    ensures { (result ≡ true) ↔ IsDistinct (λ (x y : ℕ). x == y) numbers.items }
 {
     let mut numbers = numbers;
     if rises(numbers.as_slice()) {
@@ -36,7 +35,7 @@ pub fn are_distinct_by_threads<R: Threads + Sync>(
     alloc: Global,
     numbers: &[u64],
 ) -> Result<bool, NoMemory>
-    ensures { IfOk result (λ distinct. OnTrue distinct (IsDistinct (λ (x y : ℕ). x == y) numbers.now)) }
+    ensures { IfOk result (λ distinct. (distinct ≡ true) ↔ IsDistinct (λ (x y : ℕ). x == y) numbers.now) }
 {
     if rises(numbers) {
         return Ok(true);
@@ -51,7 +50,7 @@ pub fn are_distinct_by_threads<R: Threads + Sync>(
 
 /// Whether each number is below the next.
 fn rises(numbers: &[u64]) -> bool
-    ensures { OnTrue result (IsStrictlyIncreasing numbers.now) }
+    ensures { (result ≡ true) ↔ IsStrictlyIncreasing numbers.now }
 {
     'places: for i in 1..numbers.len() {
         if numbers[i] <= numbers[i - 1] {

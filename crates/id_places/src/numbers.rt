@@ -2,8 +2,9 @@
 //!
 //! The number of an edge is made of the places of its ends among the ids. Where numbers differ, so do the edges.
 
-ghost use Rattle.std.specs.Prelude.{◌≡◌, ◌≤◌, true, length, take, IfOk, IfSome};
+ghost use Rattle.std.specs.Prelude.{◌≡◌, ◌≤◌, ◌&&◌, Some, false, true, length, slice_get, take, IfNone, IfOk, IfSome};
 ghost use Rattle.std.specs.Vec.{vec_len};
+ghost use Rattle.graphalytics_io.specs.declared.edges.Edge.{Edge};
 ghost use Rattle.id_places.specs.Places.{is_among, AreNumbers, IsNumberOf, pair_in, pair_of};
 
 use crate::id_table::IdTable;
@@ -26,6 +27,8 @@ pub fn numbers_of(
     kind: Kind,
 ) -> Result<Vec<u64>, NoMemory>
     ensures few { IfOk result (λ numbers. vec_len numbers ≤ length edges.now) }
+    ensures stops { IfOk result (λ numbers. (edge : Edge) → slice_get edges.now (vec_len numbers) ≡ Some edge
+        → (is_among known.now edge.u && is_among known.now edge.v) ≡ false) }
     ensures numbers { IfOk result (λ numbers.
         AreNumbers kind known.now (take (vec_len numbers) edges.now) numbers.items) }
 {
@@ -76,6 +79,7 @@ fn number_of(edge: &Edge, known: &IdTable, kind: Kind) -> Option<u64>
     ensures number { IfSome result (λ number. number ≡ pair_in kind known.now edge.now) }
     ensures source { IfSome result (λ _. is_among known.now edge.now.u ≡ true) }
     ensures target { IfSome result (λ _. is_among known.now edge.now.v ≡ true) }
+    ensures unknown { IfNone result ((is_among known.now edge.now.u && is_among known.now edge.now.v) ≡ false) }
 {
     let source = known.find(edge.u)?;
     let target = known.find(edge.v)?;

@@ -4,8 +4,7 @@
 //!    several threads do it side by side.
 //! 2. Where a range is cut is guessed from some of the numbers. On the guess rests nothing but time.
 
-ghost use Rattle.std.specs.Prelude.{◌==◌, ◌+◌, ◌<◌, ℕ, IfOk};
-ghost use Rattle.std.specs.Bool.{OnTrue};
+ghost use Rattle.std.specs.Prelude.{◌≡◌, ◌==◌, ◌+◌, ◌<◌, ◌↔◌, ℕ, IfOk, true};
 ghost use Rattle.std.specs.List.{IsDistinct};
 ghost use Rattle.std.specs.Thread.{IsSync};
 ghost use Rattle.id_places.specs.Within.{numbers_within};
@@ -29,13 +28,13 @@ pub(crate) fn differ<R: Threads + Sync>(
     cuts: u32,
 ) -> Result<bool, NoMemory>
     ensures { IfOk result (λ differ.
-        OnTrue differ (IsDistinct (λ (x y : ℕ). x == y) (numbers_within low last numbers.now))) }
+        (differ ≡ true) ↔ IsDistinct (λ (x y : ℕ). x == y) (numbers_within low last numbers.now)) }
 {
     if cuts == 0 {
         return differ_alone(alloc, numbers, low, last);
     }
     let middle = middle_of(alloc, numbers, low, last)?;
-    if last <= middle {
+    if middle < low || last <= middle {
         return differ_alone(alloc, numbers, low, last);
     }
     differ_both(rt, alloc, numbers, low, middle, last, cuts)
@@ -54,10 +53,9 @@ fn differ_both<R: Threads + Sync>(
 ) -> Result<bool, NoMemory>
     requires middle { middle < last }
     requires cuts { 0 < cuts }
-    ensures front { IfOk result (λ differ.
-        OnTrue differ (IsDistinct (λ (x y : ℕ). x == y) (numbers_within low middle numbers.now))) }
-    ensures back { IfOk result (λ differ.
-        OnTrue differ (IsDistinct (λ (x y : ℕ). x == y) (numbers_within (middle + 1) last numbers.now))) }
+    ensures { IfOk result (λ differ.
+        (differ ≡ true) ↔ (IsDistinct (λ (x y : ℕ). x == y) (numbers_within low middle numbers.now)
+        × IsDistinct (λ (x y : ℕ). x == y) (numbers_within (middle + 1) last numbers.now))) }
 {
     let above = middle + 1;
     let (first, second) = join(
@@ -65,12 +63,12 @@ fn differ_both<R: Threads + Sync>(
         || -> Result<bool, NoMemory>
             requires { IsSync R.row × (0 < cuts) }
             ensures { IfOk result (λ differ.
-                OnTrue differ (IsDistinct (λ (x y : ℕ). x == y) (numbers_within low middle numbers.entry.now))) }
+                (differ ≡ true) ↔ IsDistinct (λ (x y : ℕ). x == y) (numbers_within low middle numbers.entry.now)) }
         { differ(rt, alloc, numbers, low, middle, cuts - 1) },
         || -> Result<bool, NoMemory>
             requires { IsSync R.row × (0 < cuts) }
             ensures { IfOk result (λ differ.
-                OnTrue differ (IsDistinct (λ (x y : ℕ). x == y) (numbers_within above last numbers.entry.now))) }
+                (differ ≡ true) ↔ IsDistinct (λ (x y : ℕ). x == y) (numbers_within above last numbers.entry.now)) }
         { differ(rt, alloc, numbers, above, last, cuts - 1) },
     );
     Ok(first? && second?)
@@ -79,7 +77,7 @@ fn differ_both<R: Threads + Sync>(
 /// The same by one thread.
 fn differ_alone(alloc: Global, numbers: &[u64], low: u64, last: u64) -> Result<bool, NoMemory>
     ensures { IfOk result (λ differ.
-        OnTrue differ (IsDistinct (λ (x y : ℕ). x == y) (numbers_within low last numbers.now))) }
+        (differ ≡ true) ↔ IsDistinct (λ (x y : ℕ). x == y) (numbers_within low last numbers.now)) }
 {
     let mut part = Vec::with_capacity(alloc, count_within(numbers, low, last))?;
     'numbers: for number in numbers {
