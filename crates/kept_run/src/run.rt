@@ -21,7 +21,9 @@ use run_model::stepped_runs_are_runs;
 use serial_model::serial_stepped_runs_are_serial_runs;
 use std::alloc::Global;
 use std::thread::Threads;
-use teseo_program::below::{Input, Ran, RunResult, config_of, jobs_of, load_graph, new_engine};
+use teseo_program::below::{
+    Input, Ran, RunResult, config_of, jobs_of, let_go, load_graph, new_engine,
+};
 
 /// Loads the graph, and runs the scripts on it by their turns. The commits of the load and of the turns are kept by a
 /// keeper whose file is new.
@@ -69,8 +71,10 @@ pub fn run_scripts_kept<R: Threads + Sync, K: Disk>(
     run_kept(rt, &mut engine, &mut jobs, schedule, disk, keeper)?;
     engine.settle();
     let totals = engine.totals();
+    let (ran, rows) = engine.into_journal();
+    let_go(rt, rows);
     Ok(RunResult {
-        ran: Ran::Stepped(engine.into_journal(rt)),
+        ran: Ran::Stepped(ran),
         jobs,
         totals,
     })

@@ -19,5 +19,5 @@ pub use input::{Input, parse_sources};
 pub use leaves::{MOST_ROWS, leaves_of};
 pub use ran::{Manner, Ran, RunResult, run_scripts};
 pub use request::{kind_of, script_at, source_at, sources_of};
-pub use run::{SteppedRun, config_of, jobs_of, load_graph, new_engine, run_by_turns};
+pub use run::{SteppedRun, config_of, jobs_of, let_go, load_graph, new_engine, run_by_turns};
 pub use threads::run_by_threads;

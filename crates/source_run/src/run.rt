@@ -29,7 +29,7 @@ use serial_model::serial_stepped_runs_are_serial_runs;
 use serial_runner::below::{Core, CoreJournal, Job, Jobs, run_stepped};
 use serial_runner::run_serial;
 use std::alloc::Global;
-use std::thread::Threads;
+use std::thread::{Threads, spawn};
 use txn_manager::{Config, StoreRefusal, Totals};
 
 /// What a run by turns leaves: the engine's journal, the scripts with their answers and tables, and what the settled
@@ -80,11 +80,15 @@ pub fn run_by_turns<R: Threads + Sync>(
     run_jobs(rt, alloc, &mut engine, &mut jobs, schedule, is_serial)?;
     engine.settle();
     let totals = engine.totals();
-    Ok(SteppedRun {
-        ran: engine.into_journal(rt),
-        jobs,
-        totals,
-    })
+    let (ran, rows) = engine.into_journal();
+    let_go(rt, rows);
+    Ok(SteppedRun { ran, jobs, totals })
+}
+
+/// Lets go of a value in a thread of its own, where one can be made: nothing waits for it.
+pub fn let_go<R: Threads, T: Send + Drop + 'static>(rt: &R, value: T) {
+    // Where none can be made the value comes back with what the thread was to do, and goes with it.
+    drop(spawn(rt, move || drop(value)));
 }
 
 /// Loads the graph of the two files as the first transaction of a new engine. What was read of them is let go of before

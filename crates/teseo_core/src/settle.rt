@@ -11,7 +11,6 @@ use crate::store::Core;
 use graph_model::{Journal, Kind};
 use leaf_rows::{LeafRows, STAMPS_END};
 use std::marker::Model;
-use std::thread::{Threads, spawn};
 
 /// The journal that an engine leaves behind, with what each of its passes did, and whether its store was settled.
 /// Nothing but an engine makes one.
@@ -78,17 +77,16 @@ impl Core {
         self.rows.settled_rows_have_no_records();
     }
 
-    /// The journal, with what each pass did, and whether no record and no retired leaf was left. The rows are let go of
-    /// meanwhile, by a thread of their own where one can be made.
-    pub fn into_journal<R: Threads>(self, rt: &R) -> CoreJournal
-        ensures core { result.core ≡ self.core }
-        ensures settled { result.settled ≡ true → (record_count self.rows ≡ 0) × (self.rows.retired ≡ []) }
-        ensures unsettled { record_count self.rows ≡ 0 → self.rows.retired ≡ [] → result.settled ≡ true }
+    /// The journal, with what each pass did, and whether no record and no retired leaf was left. The rows come with it:
+    /// to let go of them takes a while, and the caller has better things to do. Takes no memory.
+    pub fn into_journal(self) -> (CoreJournal, LeafRows)
+        ensures core { result.0.core ≡ self.core }
+        ensures settled { result.0.settled ≡ true → (record_count self.rows ≡ 0) × (self.rows.retired ≡ []) }
+        ensures unsettled { record_count self.rows ≡ 0 → self.rows.retired ≡ [] → result.0.settled ≡ true }
     {
         // Looked at before the rows are let go, and kept as a fact of the journal that is handed out.
         let settled = has_nothing_left(&self.rows);
-        let_go(rt, self.rows);
-        CoreJournal {
+        let ran = CoreJournal {
             settled,
             journal: self.manager.into_journal(),
             kind: self.kind,
@@ -96,14 +94,9 @@ impl Core {
             passes: self.passes,
             selected: self.selected,
             served: self.served,
-        }
+        };
+        (ran, self.rows)
     }
-}
-
-/// Lets go of rows in a thread of their own, where one can be made: that goes over all leaves, and nothing waits for it.
-fn let_go<R: Threads>(rt: &R, rows: LeafRows) {
-    // Where none can be made the rows come back with what the thread was to do, and go with it.
-    drop(spawn(rt, move || drop(rows)));
 }
 
 /// Whether no record and no retired leaf is left.
