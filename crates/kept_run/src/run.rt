@@ -71,7 +71,7 @@ pub fn run_scripts_kept<R: Threads + Sync, K: Disk>(
     run_kept(rt, &mut engine, &mut jobs, schedule, disk, keeper)?;
     engine.settle();
     let totals = engine.totals();
-    let (ran, rows) = engine.into_journal();
+    let (ran, rows) = engine.into_journal(&totals);
     let_go(rt, rows);
     Ok(RunResult {
         ran: Ran::Stepped(ran),

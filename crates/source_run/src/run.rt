@@ -80,7 +80,7 @@ pub fn run_by_turns<R: Threads + Sync>(
     run_jobs(rt, alloc, &mut engine, &mut jobs, schedule, is_serial)?;
     engine.settle();
     let totals = engine.totals();
-    let (ran, rows) = engine.into_journal();
+    let (ran, rows) = engine.into_journal(&totals);
     let_go(rt, rows);
     Ok(SteppedRun { ran, jobs, totals })
 }

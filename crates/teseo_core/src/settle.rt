@@ -2,7 +2,7 @@
 //!
 //! 1. No transaction is open, so nobody reads what came before the newest graph.
 
-ghost use Rattle.std.specs.Prelude.{◌≡◌, [], true};
+ghost use Rattle.std.specs.Prelude.{◌≡◌, ◌-◌, ◌^◌, ◌↔◌, [], length, min, true};
 ghost use Rattle.leaf_rows.specs.LeafStore.Leaves.{record_count};
 ghost use Rattle.teseo_core.specs.Keeping.{IsSettled, KeepsService, NoneOpen};
 
@@ -11,6 +11,7 @@ use crate::store::Core;
 use graph_model::{Journal, Kind};
 use leaf_rows::{LeafRows, STAMPS_END};
 use std::marker::Model;
+use txn_manager::Totals;
 
 /// The journal that an engine leaves behind, with what each of its passes did, and whether its store was settled.
 /// Nothing but an engine makes one.
@@ -77,17 +78,18 @@ impl Core {
         self.rows.settled_rows_have_no_records();
     }
 
-    /// The journal, with what each pass did, and whether no record and no retired leaf was left. The rows come with it:
-    /// to let go of them takes a while, and the caller has better things to do. Takes no memory.
-    pub fn into_journal(self) -> (CoreJournal, LeafRows)
+    /// The journal, with what each pass did, and whether no record and no retired leaf was left, as the counts of its
+    /// rows tell. The rows come with it: to let go of them takes a while, and the caller has better things to do. Takes
+    /// no memory.
+    pub fn into_journal(self, totals: &Totals) -> (CoreJournal, LeafRows)
+        requires undo { totals.now.undo ≡ min (record_count self.rows) (2 ^ 64 - 1) }
+        requires retired { totals.now.retired ≡ length self.rows.retired }
         ensures core { result.0.core ≡ self.core }
         ensures settled { result.0.settled ≡ true → (record_count self.rows ≡ 0) × (self.rows.retired ≡ []) }
         ensures unsettled { record_count self.rows ≡ 0 → self.rows.retired ≡ [] → result.0.settled ≡ true }
     {
-        // Looked at before the rows are let go, and kept as a fact of the journal that is handed out.
-        let settled = has_nothing_left(&self.rows);
         let ran = CoreJournal {
-            settled,
+            settled: count_nothing(totals),
             journal: self.manager.into_journal(),
             kind: self.kind,
             leaves: self.leaves,
@@ -99,13 +101,9 @@ impl Core {
     }
 }
 
-/// Whether no record and no retired leaf is left.
-fn has_nothing_left(rows: &LeafRows) -> bool
-    ensures nothing { result ≡ true → (record_count rows.now ≡ 0) × (rows.now.retired ≡ []) }
-    ensures something { record_count rows.now ≡ 0 → rows.now.retired ≡ [] → result ≡ true }
+/// Whether no record and no retired leaf is counted.
+fn count_nothing(totals: &Totals) -> bool
+    ensures { (result ≡ true) ↔ ((totals.now.undo ≡ 0) × (totals.now.retired ≡ 0)) }
 {
-    if rows.record_count() > 0 {
-        return false;
-    }
-    rows.retired_count() == 0
+    totals.undo == 0 && totals.retired == 0
 }
