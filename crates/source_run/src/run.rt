@@ -24,6 +24,7 @@ use crate::input::Input;
 use graph_model::{Ids, Kind, LoadRefusal, NoMemory};
 use graphalytics_io::{Edges, writes_of};
 use items::Items;
+use leaf_rows::LeafRows;
 use run_model::{Command, Script, stepped_runs_are_runs};
 use serial_model::serial_stepped_runs_are_serial_runs;
 use serial_runner::below::{Core, CoreJournal, Job, Jobs, run_stepped};
@@ -85,10 +86,10 @@ pub fn run_by_turns<R: Threads + Sync>(
     Ok(SteppedRun { ran, jobs, totals })
 }
 
-/// Lets go of a value in a thread of its own, where one can be made: nothing waits for it.
-pub fn let_go<R: Threads, T: Send + Drop + 'static>(rt: &R, value: T) {
-    // Where none can be made the value comes back with what the thread was to do, and goes with it.
-    drop(spawn(rt, move || drop(value)));
+/// Lets go of rows in a thread of their own, where one can be made: nothing waits for it.
+pub fn let_go<R: Threads>(rt: &R, rows: LeafRows) {
+    // Where none can be made the rows come back with what the thread was to do, and go with it.
+    drop(spawn(rt, move || drop(rows)));
 }
 
 /// Loads the graph of the two files as the first transaction of a new engine. What was read of them is let go of before

@@ -31,9 +31,9 @@ returns-clause-run g c =
     c.args.is_serial c.in_ok-engine.engine.core c.load_graph.new.engine.core c.run_jobs.new.engine.core c.in_ok-jobs.jobs c.run_jobs.new.jobs c.as_slice-schedule.result.now c.in_ok-engine.ensures c.in_ok-load_graph.ensures.loaded c.in_ok-jobs.ensures c.in_ok-run_jobs.ensures.ends in
     let leaves = leaves_are (inputs_of c.args.kind (meaning_of c.args.input)) c.args.leaves c.config_of-config.result (subst (λ scripts. IsConfig c.args.kind c.args.leaves scripts c.config_of-config.result) c.as_slice.ensures c.config_of-config.ensures.config) c.requires.inputs c.in_ok-engine.engine.core c.load_graph.new.engine.core c.in_ok-engine.ensures c.in_ok-load_graph.ensures.loaded in
     let zero_served = none_served (inputs_of c.args.kind (meaning_of c.args.input)) c.args.leaves c.config_of-config.result (subst (λ scripts. IsConfig c.args.kind c.args.leaves scripts c.config_of-config.result) c.as_slice.ensures c.config_of-config.ensures.config) c.requires.inputs c.in_ok-engine.engine.core c.load_graph.new.engine.core c.in_ok-engine.ensures c.in_ok-load_graph.ensures.loaded in
-    run_as c.stepped_runs_are_runs.ensures c.serial_stepped_runs_are_serial_runs.ensures c.args.is_serial (inputs_of c.args.kind (meaning_of c.args.input)) c.args.leaves c.args.input.schedule _ c.into_journal.result.0 c.requires.inputs
+    run_as c.stepped_runs_are_runs.ensures c.serial_stepped_runs_are_serial_runs.ensures c.args.is_serial (inputs_of c.args.kind (meaning_of c.args.input)) c.args.leaves c.args.input.schedule _ c.into_journal-ran.result.0 c.requires.inputs
     (left_by_run (inputs_of c.args.kind (meaning_of c.args.input)) c.args.leaves c.args.input.schedule c.as_slice-schedule.result.now c.load_graph.new.engine.core c.run_jobs.new.engine.core c.run_jobs.new.jobs
-    (record { ran = c.into_journal.result.0; jobs = c.run_jobs.new.jobs; totals = c.totals-totals.result }) c.as_slice-schedule.ensures leaves zero_served (c.into_journal.ensures.core ∙ c.settle.ensures.core) (c.into_journal.ensures.unsettled c.settle.ensures.settled.records c.settle.ensures.settled.retired) refl
+    (record { ran = c.into_journal-ran.result.0; jobs = c.run_jobs.new.jobs; totals = c.totals-totals.result }) c.as_slice-schedule.ensures leaves zero_served (c.into_journal-ran.ensures.core ∙ c.settle.ensures.core) (c.into_journal-ran.ensures.unsettled c.settle.ensures.settled.records c.settle.ensures.settled.retired) refl
     c.args.is_serial ends)
 
 pub returns-clause-left : goal.returns-clause-left
@@ -43,14 +43,14 @@ returns-clause-left g c =
     let leaves = leaves_are (inputs_of c.args.kind (meaning_of c.args.input)) c.args.leaves c.config_of-config.result (subst (λ scripts. IsConfig c.args.kind c.args.leaves scripts c.config_of-config.result) c.as_slice.ensures c.config_of-config.ensures.config) c.requires.inputs c.in_ok-engine.engine.core c.load_graph.new.engine.core c.in_ok-engine.ensures c.in_ok-load_graph.ensures.loaded in
     let zero_served = none_served (inputs_of c.args.kind (meaning_of c.args.input)) c.args.leaves c.config_of-config.result (subst (λ scripts. IsConfig c.args.kind c.args.leaves scripts c.config_of-config.result) c.as_slice.ensures c.config_of-config.ensures.config) c.requires.inputs c.in_ok-engine.engine.core c.load_graph.new.engine.core c.in_ok-engine.ensures c.in_ok-load_graph.ensures.loaded in
     left_by_run (inputs_of c.args.kind (meaning_of c.args.input)) c.args.leaves c.args.input.schedule c.as_slice-schedule.result.now c.load_graph.new.engine.core c.run_jobs.new.engine.core c.run_jobs.new.jobs
-    (record { ran = c.into_journal.result.0; jobs = c.run_jobs.new.jobs; totals = c.totals-totals.result }) c.as_slice-schedule.ensures leaves zero_served (c.into_journal.ensures.core ∙ c.settle.ensures.core) (c.into_journal.ensures.unsettled c.settle.ensures.settled.records c.settle.ensures.settled.retired) refl
+    (record { ran = c.into_journal-ran.result.0; jobs = c.run_jobs.new.jobs; totals = c.totals-totals.result }) c.as_slice-schedule.ensures leaves zero_served (c.into_journal-ran.ensures.core ∙ c.settle.ensures.core) (c.into_journal-ran.ensures.unsettled c.settle.ensures.settled.records c.settle.ensures.settled.retired) refl
     c.args.is_serial ends
 
 pub returns-clause-counts : goal.returns-clause-counts
 returns-clause-counts g c =
     let ends = ended (inputs_of c.args.kind (meaning_of c.args.input)) c.args.leaves c.config_of-config.result (subst (λ scripts. IsConfig c.args.kind c.args.leaves scripts c.config_of-config.result) c.as_slice.ensures c.config_of-config.ensures.config) c.requires.inputs
     c.args.is_serial c.in_ok-engine.engine.core c.load_graph.new.engine.core c.run_jobs.new.engine.core c.in_ok-jobs.jobs c.run_jobs.new.jobs c.as_slice-schedule.result.now c.in_ok-engine.ensures c.in_ok-load_graph.ensures.loaded c.in_ok-jobs.ensures c.in_ok-run_jobs.ensures.ends in
-    counts_of c.args.kind c.settle.new.self.core (record { ran = c.into_journal.result.0; jobs = c.run_jobs.new.jobs; totals = c.totals-totals.result }) (ap (λ s. s.kind) c.settle.ensures.core ∙ kind_as c.args.is_serial (inputs_of c.args.kind (meaning_of c.args.input)) c.as_slice-schedule.result.now c.load_graph.new.engine.core c.run_jobs.new.engine.core c.run_jobs.new.jobs ends) c.into_journal.ensures.core c.totals-totals.ensures.vertices c.totals-totals.ensures.edges
+    counts_of c.args.kind c.settle.new.self.core (record { ran = c.into_journal-ran.result.0; jobs = c.run_jobs.new.jobs; totals = c.totals-totals.result }) (ap (λ s. s.kind) c.settle.ensures.core ∙ kind_as c.args.is_serial (inputs_of c.args.kind (meaning_of c.args.input)) c.as_slice-schedule.result.now c.load_graph.new.engine.core c.run_jobs.new.engine.core c.run_jobs.new.jobs ends) c.into_journal-ran.ensures.core c.totals-totals.ensures.vertices c.totals-totals.ensures.edges
     (c.totals-totals.ensures.undo ∙ ap (λ n. min n (2 ^ 64 - 1)) c.settle.ensures.settled.records, c.totals-totals.ensures.retired ∙ ap length c.settle.ensures.settled.retired)
 
 pub load_graph-requires-clause-new : goal.load_graph-requires-clause-new
