@@ -3,11 +3,12 @@
 //! Each thread has rows that follow each other, and the first of those behind them besides, so that each two neighbours
 //! are looked at by one.
 
-ghost use Rattle.std.specs.Prelude.{◌+◌, ◌<◌, ◌≤◌, length};
+ghost use Rattle.std.specs.Prelude.{◌≡◌, ◌+◌, ◌-◌, ◌++◌, ◌<◌, ◌≤◌, false, length, slice_index_or};
 ghost use Rattle.std.specs.Bool.{OnTrue};
 ghost use Rattle.std.specs.List.Sorted.{IsSortedByKey, IsSortedWithin};
 ghost use Rattle.std.specs.Thread.{IsSync};
 ghost use Rattle.graph_model.specs.Rows.{key_cmp, is_below};
+ghost use Rattle.graph_model.specs.declared.row.Row.{Row};
 
 use graph_model::Row;
 use std::thread::{Threads, join};
@@ -17,6 +18,29 @@ pub(crate) fn are_sorted<R: Threads + Sync>(rt: &R, rows: &[Row], cuts: u32) -> 
     ensures { OnTrue result (IsSortedByKey (λ row. row.key) key_cmp rows.now) }
 {
     are_sorted_within(rt, rows, 0, rows.len(), cuts)
+}
+
+/// Whether the rows of two lists, one behind the other, are in the order of their keys. Each is halved so often.
+pub(crate) fn follow_sorted<R: Threads + Sync>(
+    rt: &R,
+    front: &[Row],
+    back: &[Row],
+    cuts: u32,
+) -> bool
+    ensures { OnTrue result (IsSortedByKey (λ row. row.key) key_cmp (front.now ++ back.now)) }
+{
+    meet(front, back) && are_sorted(rt, front, cuts) && are_sorted(rt, back, cuts)
+}
+
+/// Whether the first row of one list may follow the last of another.
+fn meet(front: &[Row], back: &[Row]) -> bool
+    ensures { OnTrue result ((d : Row) → 0 < length front.now → 0 < length back.now
+        → is_below (slice_index_or back.now 0 d).key (slice_index_or front.now (length front.now - 1) d).key ≡ false) }
+{
+    match (front, back) {
+        ([.., last], [first, ..]) => !first.key.is_below(last.key),
+        _ => true,
+    }
 }
 
 /// The same of those from a place on and up to another.

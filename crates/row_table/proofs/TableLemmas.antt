@@ -19,6 +19,7 @@ use Rattle.head_map.specs.Heads.{ChangedRow}
 use Rattle.head_map.specs.Heads.{PlacedRow}
 use Rattle.head_map.specs.Keyed.{entries_by, RisesBy, IsGapBy}
 use Rattle.head_map.specs.Heads.{settled_heads, row_key, row_heads, heads_at, heads_placed, opened, closed, keyed, AreSettledRows}
+use Rattle.row_table.specs.Parts.{value_in, with_value}
 use Rattle.head_map.proofs.KeyedLemmas.{tied_same}
 use Rattle.head_map.proofs.PlaceLemmas.{below_or_not, other_test, opened_high, closed_high}
 use Rattle.head_map.proofs.HeadLemmas.{found_at, index_below, heads_there, heads_gap, heads_set, heads_insert, heads_remove}
@@ -291,3 +292,20 @@ settled_range rows f from until a b low high h q within = elim (table_cases rows
 pub settled_rows : (rows : List Row) (f : ℕ → Heads) (first end : ℕ) → AreSorted rows → ((p : ℕ) → first ≤ p → p < end → f p ≡ settled_heads) → AreSettledRows rows (keyed rows f) first end
 settled_rows rows f first end sorted h p row there le lt =
     table_there rows f row.key p sorted (subst (λ (o : Option Row). IsSomeAnd o (λ r. r.key ≡ row.key)) (sym there) refl) ∙ h p le lt
+
+-- a row that is given the value that it has stays as it is
+pub kept_value : (rows : List Row) (key : Key) (h : Heads) (place : ℕ) (v : Option ℕ) (b : Bool) → IsSomeAnd (slice_get rows place) (λ r. (r.key ≡ key) × (v ≡ value_in h r.weight)) → (v ≡ None → b ≡ true) → with_value rows place v b ≡ rows
+kept_value rows key h place (Some w) b there changed = same_weight rows place there
+  where
+    own : (h : Heads) (weight : ℕ) → Some w ≡ value_in h weight → w ≡ weight
+    own h weight e = elim h.has_value as (λ t. Some w ≡ cond t (Some weight) None → w ≡ weight) [ true ↦ λ f. some_eq w weight f | false ↦ λ f. cc ] e
+
+    same_weight : (rows : List Row) (place : ℕ) → IsSomeAnd (slice_get rows place) (λ r. (r.key ≡ key) × (Some w ≡ value_in h r.weight)) → with_weight rows place w ≡ rows
+    same_weight [] place there = refl
+    same_weight (x ∷ xs) zero there = ap (λ n. record x { weight = n } ∷ xs) (own h x.weight there.1)
+    same_weight (x ∷ xs) (suc place) there = ap (λ ys. x ∷ ys) (same_weight xs place there)
+kept_value rows key h place None true there changed = refl
+kept_value rows key h place None false there changed = clash (changed refl)
+  where
+    clash : false ≡ true → remove rows place ≡ rows
+    clash e = cc

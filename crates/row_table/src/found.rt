@@ -1,8 +1,8 @@
 //! One row of a table.
 //!
-//! 1. Each change of a row goes through `set_row` or `insert_row`, so that its weight and its heads agree.
+//! 1. Each change of a row goes through `set_row`, `set_lists` or `insert_row`, so that its weight and its heads agree.
 
-ghost use Rattle.std.specs.Prelude.{◌≡◌, ◌⊎◌, ◌<◌, ◌≤◌, ◌+◌, true, length, insert, cond};
+ghost use Rattle.std.specs.Prelude.{◌≡◌, ◌⊎◌, ◌<◌, ◌≤◌, ◌+◌, true, length, insert, cond, slice_get, IsSomeAnd};
 ghost use Rattle.std.specs.Ordering.{eq_by_cmp};
 ghost use Rattle.std.specs.declared.result.Result.TheVariants.{Ok};
 ghost use Rattle.graph_model.specs.declared.row.Key.{Key};
@@ -94,6 +94,30 @@ pub fn set_row(rows: &mut RowTable, chains: &Chains, key: Key, row: FoundRow)
     }
 }
 
+/// Gives a row whose value stays its lists, or takes it away where nothing is left of it. The value is neither read nor
+/// written, so nobody waits for its memory.
+fn set_lists(rows: &mut RowTable, chains: &Chains, key: Key, row: FoundRow)
+    requires at { IsFound rows.old.fenced.rows key (Ok row.place) }
+    requires value { IsSomeAnd (slice_get rows.old.fenced.rows row.place)
+        (λ r. (r.key ≡ key) × (row.value ≡ value_in (heads_at rows.old.heads.entries key) r.weight)) }
+    requires room { (0 < rows.old.heads.spare)
+        ⊎ (heads_at rows.old.heads.entries key ≡ settled_heads → heads_of row ≡ settled_heads) }
+    requires undos { IsHeadOf chains.now row.undos }
+    requires touches { IsHeadOf chains.now row.touches }
+    ensures rows { rows.new.fenced
+        ≡ record rows.old.fenced { rows = with_value rows.old.fenced.rows row.place row.value (is_changed row) } }
+    ensures heads { (q : Key) → heads_at rows.new.heads.entries q
+        ≡ cond (eq_by_cmp key_cmp q key) (heads_of row) (heads_at rows.old.heads.entries q) }
+    ensures kept { (heads_at rows.old.heads.entries key ≡ settled_heads → heads_of row ≡ settled_heads)
+        → rows.old.heads.spare ≤ rows.new.heads.spare }
+{
+    if row.value.is_some() || is_changed(row) {
+        rows.put(key, row.place, heads_of(chains, row));
+    } else {
+        rows.remove(key, row.place);
+    }
+}
+
 /// Puts a new row at the place where it has to stand.
 pub fn insert_row(rows: &mut RowTable, chains: &Chains, key: Key, row: FoundRow)
     requires rows { length rows.old.fenced.rows < SEGMENT_ROWS }
@@ -146,7 +170,14 @@ pub fn prune_row<S: States>(
         touches,
         ..row
     };
-    set_row(rows, chains, key, row);
+    set_lists(rows, chains, key, row);
+}
+
+/// Whether a row has a record.
+fn is_changed(row: FoundRow) -> bool
+    ensures { result ≡ is_changed row }
+{
+    row.undos.is_some() || row.touches.is_some()
 }
 
 /// What the changed rows say of a row.

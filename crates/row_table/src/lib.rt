@@ -1,7 +1,7 @@
 //! Sorted rows with their records.
 //!
 //! 1. The heads of a row are found by its place, so they move where it moves.
-//! 2. Each change of a row goes through `set_row` or `insert_row`, so that its weight and its heads agree.
+//! 2. Each change of a row goes through `set_row`, `set_lists` or `insert_row`, so that its weight and its heads agree.
 //! 3. Rows that go to a neighbour take their records along.
 #![tactic(auto)]
 

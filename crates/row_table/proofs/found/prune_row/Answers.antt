@@ -21,8 +21,8 @@ prune_touches-touches-requires-clause-named g c =
     subst (λ (us : List UndoRecord). AreNamed (g.S.States.knowledge c.prune-undos.new.states).names us) (sym stay)
     (subst (λ (names : TxnName → Bool). AreNamed names (list_at c.args.chains.now c.row_at-row.result.touches)) (sym c.prune-undos.ensures.grows.names) named)
 
-pub set_row-requires-clause-room : goal.set_row-requires-clause-room
-set_row-requires-clause-room g c =
+pub set_lists-requires-clause-room : goal.set_lists-requires-clause-room
+set_lists-requires-clause-room g c =
     let second = subst (λ (stamps : TxnName → Option ℕ). list_at c.prune_touches-touches.new.self c.prune_touches-touches.result ≡ open_touches stamps c.args.horizon (list_at c.prune-undos.new.self c.row_at-row.result.touches)) c.prune-undos.ensures.grows.stamps c.prune_touches-touches.ensures.list in
     inr (prune_settled c.args.rows.now.fenced c.args.rows.now.heads c.args.chains.now _ c.requires.parts _ c.row_at-row.ensures.row _ c.row_at-row.ensures.place _ _ _ _ (g.S.States.knowledge c.args.states.now).stamps c.args.horizon
     c.prune-undos.ensures.list c.prune-undos.ensures.others second c.prune_touches-touches.ensures.others)
@@ -34,7 +34,7 @@ returns-clause-pruned g c =
     c.prune-undos.ensures.list c.prune-undos.ensures.others second c.prune_touches-touches.ensures.others in
     prune_done c.args.rows.now.fenced c.args.rows.now.heads c.args.chains.now _ c.requires.parts _ c.row_at-row.ensures.row _ c.row_at-row.ensures.place _ _ _ _ (g.S.States.knowledge c.args.states.now).stamps c.args.horizon
     c.prune-undos.ensures.list c.prune-undos.ensures.others second c.prune_touches-touches.ensures.others
-    c.set_row.new.rows.fenced c.set_row.new.rows.heads c.set_row.ensures.rows c.set_row.ensures.heads (c.set_row.ensures.kept settled) (omega (arith, c.prune-undos.ensures.spare, c.prune_touches-touches.ensures.spare)) c.prune-undos.ensures.freed c.prune_touches-touches.ensures.freed
+    c.set_lists.new.rows.fenced c.set_lists.new.rows.heads c.set_lists.ensures.rows c.set_lists.ensures.heads (c.set_lists.ensures.kept settled) (omega (arith, c.prune-undos.ensures.spare, c.prune_touches-touches.ensures.spare)) c.prune-undos.ensures.freed c.prune_touches-touches.ensures.freed
 
 pub returns-then-is_none-2-clause-pruned : goal.returns-then-is_none-2-clause-pruned
 returns-then-is_none-2-clause-pruned g c =
