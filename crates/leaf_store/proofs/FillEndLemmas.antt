@@ -1,6 +1,8 @@
 -- The first leaf and the last one of a store that begins with rows.
-use Rattle.std.proofs.Common.{◌≡◌, ℕ, ◌+◌, ◌-◌, ◌≤◌, List, [], ◌∷◌, ◌++◌, Some, length, map, take, drop, set, min, cond, refl, sym, ◌∙◌, ap, subst, arith}
-use Rattle.std.specs.Prelude.{true, false, sum}
+use Rattle.std.proofs.Common.{◌≡◌, ℕ, ◌+◌, ◌-◌, ◌*◌, ◌≤◌, List, [], ◌∷◌, ◌++◌, Some, length, map, take, drop, set, slice_index_or, min, cond, refl, sym, ◌∙◌, ap, subst, arith}
+use Rattle.std.specs.Prelude.{true, false, sum, ◌<◌, Ok, Err, IfErr}
+use Rattle.std.specs.Result.{IsErrAnd}
+use Rattle.std.specs.declared.result.Result.{Result}
 use Rattle.std.specs.List.{AllByRecursion}
 use Rattle.std.specs.Ordering.{eq_by_cmp}
 use Rattle.std.specs.FinMap.Entries.{find}
@@ -8,7 +10,7 @@ use Rattle.std.specs.declared.boxed.Box.{Box}
 use Rattle.std.specs.declared.alloc.Global.{Global}
 use Rattle.std.proofs.Math.ListN.{length-set}
 use Rattle.std.proofs.Math.Seq.{take-append_seam, drop-append_seam}
-use Rattle.std.proofs.lemmas.List.{append-nil, length-map, take_all}
+use Rattle.std.proofs.lemmas.List.{append-nil, length-map, length-drop, length-take, take-append-drop, take_all}
 use Rattle.std.proofs.lemmas.List.FromFn.{length-range_with_len}
 use Rattle.graph_model.specs.declared.limits.TheConstants.{SPLIT_ROWS}
 use Rattle.graph_model.specs.declared.row.Key.{Key}
@@ -19,7 +21,7 @@ use Rattle.gap_segment.specs.Fenced.{AreAbove, AreSorted, AreWithin, first_key_o
 use Rattle.leaf_table.specs.VersionSegment.Rows.{VersionedRows, or_nothing, settled_row, settled_rows}
 use Rattle.leaf_table.specs.LeafArrayDeclared.leaf.Leaf.{Leaf}
 use Rattle.leaf_table.specs.LeafArray.Leaves.{IsLeaf}
-use Rattle.leaf_table.specs.LeafArray.Segments.{rows_of, lows_of}
+use Rattle.leaf_table.specs.LeafArray.Segments.{rows_of, lows_of, low_or}
 use Rattle.leaf_table.proofs.LeafArray.LeafLemmas.{follow-of}
 use Rattle.leaf_index.specs.Index.{Index, Entry, AreCuts, BeginBelow, IsIndex, end_of}
 use Rattle.leaf_index.specs.Calls.{CanCut, new_index, with_cuts}
@@ -27,11 +29,12 @@ use Rattle.txn_manager.specs.declared.config.RoomRefusal.{RoomRefusal}
 use Rattle.txn_manager.specs.declared.config.RoomRefusal.TheVariants as refusals
 use Rattle.leaf_store.specs.Leaves.{weight_of_part}
 use Rattle.leaf_store.specs.Changes.{AreFilled, AreRising, IsFillRefusal, settled_at}
-use Rattle.leaf_table.specs.Settled.{AreSettled, next_key}
-use Rattle.leaf_store.specs.Fill.{AreTiedTo, IsFilling, IsFillStop, begin_of, parts_in}
+use Rattle.leaf_table.specs.Settled.{AreLeavesFrom, AreSettled, IsLeafFrom, next_key}
+use Rattle.leaf_table.specs.declared.load.LoadLeaves.{LoadLeaves}
+use Rattle.leaf_store.specs.Fill.{AreInOrder, AreNext, AreTiedTo, IsFilling, IsFillStop, IsFirst, IsLoad, IsNext, begin_of, parts_in}
 use Rattle.leaf_store.specs.Table.{AreStamped, IsKept, IsTied, AreTied, part_of, segments_or_none, segments_at, leaves_of}
 use Rattle.leaf_store.proofs.CellLemmas.{AreSound}
-use Rattle.leaf_table.proofs.FillLemmas.{cut_until, sorted_front, within_front}
+use Rattle.leaf_table.proofs.FillLemmas.{NextRows, cut_until, next_rows, sorted_front, within_front}
 use Rattle.leaf_store.proofs.FillStepLemmas.{sorted_further}
 use Rattle.leaf_store.proofs.KeyLemmas.{from_above}
 use Rattle.leaf_queue.proofs.ListLemmas.{get_set_same}
@@ -39,10 +42,12 @@ use Rattle.leaf_store.proofs.SplitLemmas.{are_cuts}
 use Rattle.leaf_store.proofs.StoreLemmas.{cells_in, none_below_first, versions_in_rows, weight_one}
 use Rattle.leaf_store.proofs.TableLemmas.{Table, kept_leaves}
 
--- rows are laid, in as many leaves as there were
-pub record StillFilling (rows : List Row) (at : ℕ) (old new : Index) (table : Table) : Type 0 where
-  pub filling : IsFilling rows at new table
-  pub limit : new.leaves ≡ old.leaves
+-- so many leaves behind the first are laid, whatever rows they have
+pub record LaidSoFar (rows : ℕ) (begun : Index) (before behind : Table) (left place : ℕ) (index : Index) (table made : Table) : Type 0 where
+  pub filling : (all : List Row) → AreNext all rows begun before behind → IsFilling all (min (208 + 208 * place) (length all)) index table
+  pub leaves : (all : List Row) → AreNext all rows begun before behind → AreLeavesFrom all 208 made
+  pub left_is : left ≡ rows - 208 * place
+  pub limit : index.leaves ≡ begun.leaves
 
 -- ---- rows in rising order
 
@@ -86,6 +91,56 @@ first_rows rows here behind sorted within is some =
     low : (behind : List Row) → AreSorted (here ++ behind) → (1 ≤ length behind → 1 ≤ length here) → is_below first_key (first_key_or behind end_key) ≡ true
     low [] sorted some = refl
     low (b ∷ behind) sorted some = first_below here (b ∷ behind) sorted (some (omega arith))
+
+-- ---- as many rows as a leaf takes
+
+abbrev pub front_of : List Row → List Row
+front_of rows = take (min (length rows) 208) rows
+
+abbrev pub behind_of : List Row → List Row
+behind_of rows = drop (min (length rows) 208) rows
+
+pub in_two : (rows : List Row) → rows ≡ front_of rows ++ behind_of rows
+in_two rows = sym (take-append-drop (min (length rows) 208) rows)
+
+pub front_length : (rows : List Row) → length (front_of rows) ≡ min (length rows) 208
+front_length rows = omega (arith, length-take (min (length rows) 208) rows)
+
+pub first_of : (rows : List Row) → AreInOrder rows → FirstRows rows (front_of rows) (behind_of rows)
+first_of rows order =
+    first_rows rows (front_of rows) (behind_of rows) order.sorted order.within (in_two rows) (λ some. omega (arith, some, length-drop (min (length rows) 208) rows, front_length rows))
+
+pub next_of : (rows : List Row) (at : ℕ) → AreInOrder rows → at < length rows → NextRows rows (front_of (drop at rows)) (behind_of (drop at rows)) at
+next_of rows at order more =
+    next_rows rows (front_of (drop at rows)) (behind_of (drop at rows)) at order.sorted order.within (omega (arith, more)) (in_two (drop at rows)) (omega (arith, more, length-drop at rows, front_length (drop at rows)))
+
+-- a leaf begins where its first segment does
+pub first_low : (ss : List VersionedRows) (low : Key) (d : VersionedRows) → low_or ss low ≡ low → 1 ≤ length ss → (slice_index_or ss 0 d).low ≡ low
+first_low [] low d begins some = absurd (omega (arith, some))
+first_low (s ∷ ss) low d begins some = begins
+
+pub in_order : (rows : List Row) → AreRising rows → AreInOrder rows
+in_order rows rising = record { sorted = rising_sorted rows rising; within = rising_within rows rising }
+
+-- the leaf that comes next, while there is one
+pub next_leaf : (rows : ℕ) (begun : Index) (before behind : Table) (left place : ℕ) (index : Index) (table made : Table) → LaidSoFar rows begun before behind left place index table made → 0 < left → (memory : Box Leaf Global)
+    → (all : List Row) → AreNext all rows begun before behind → (AreLeavesFrom all 208 made → IsLeafFrom all (208 + 208 * place) memory) → IsNext all (208 + 208 * place) index table memory
+next_leaf rows begun before behind left place index table made laid some memory all next leaf =
+    let more : 208 + 208 * place < length all = omega (arith, laid.left_is, next.left_is, some) in
+    let here : min (208 + 208 * place) (length all) ≡ 208 + 208 * place = omega (arith, more) in
+    record { order = next.order; filling = subst (λ n. IsFilling all n index table) here (laid.filling all next); more = more; leaf = leaf (laid.leaves all next) }
+
+pub stop_before : (refusal : RoomRefusal) (index begun : Index) (rows : List Row) → index.leaves ≡ begun.leaves → IsFillStop refusal index rows → IsFillStop refusal begun rows
+stop_before (refusals.Full n) index begun rows limit stop = (stop.0 ∙ limit, omega (arith, stop.1, limit))
+stop_before refusals.NoMemory index begun rows limit stop = tt
+
+-- ---- the leaves of a load
+
+pub first_leaf : (rows : List Row) (made : LoadLeaves) → IsLoad rows made → IsFirst rows made.first
+first_leaf rows made is = record { order = in_order rows is.rising; leaf = is.leaves.first }
+
+pub next_leaves : (rows : List Row) (made : LoadLeaves) (left : ℕ) (index : Index) (table : Table) → IsLoad rows made → left ≡ made.rows - 208 → IsFilling rows (min 208 (length rows)) index table → AreNext rows left index table made.rest.items
+next_leaves rows made left index table is count filling = record { order = in_order rows is.rising; filling = filling; left_is = omega (arith, count, is.leaves.count); leaves = is.leaves.rest }
 
 module _ (rows here behind : List Row) (index new : Index) (table table' : Table) (memory : Box Leaf Global) (cuts : List Key) (first : FirstRows rows here behind) (all : rows ≡ here ++ behind) (is_new : index ≡ new_index (length table)) (some : 1 ≤ length table)
     (settled : AreSettled first_key (first_key_or behind end_key) here memory.value.segments) (is_leaf : IsLeaf memory.value.segments) (sound : AreSound memory.value.segments) (are : cuts ≡ lows_of memory.value.segments) where
@@ -186,3 +241,8 @@ is_filled leaves rows index table f limit =
 pub fill_refused : (leaves : ℕ) (rows : List Row) (index : Index) → index.leaves ≡ leaves → (refusal : RoomRefusal) → IsFillStop refusal index rows → IsFillRefusal leaves rows refusal
 fill_refused leaves rows index limit (refusals.Full n) stop = (stop.0 ∙ limit, omega (arith, stop.1, limit))
 fill_refused leaves rows index limit refusals.NoMemory stop = tt
+
+-- an error that is passed on
+pub handed_on : {T E : Type 0} (r : Result T E) (e : E) (P : E → Type 0) → IsErrAnd r (λ x. x ≡ e) → P e → IfErr r P
+handed_on (Ok x) e P is here = absurd is
+handed_on (Err x) e P is here = subst P (sym is) here

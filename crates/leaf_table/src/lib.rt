@@ -9,13 +9,15 @@ mod ahead;
 pub mod below;
 mod fill;
 mod finger;
+mod load;
 mod look;
 mod place;
 mod table;
 
 pub use ahead::{count_with_memory, fingers_at, sum_ahead, sum_leaf_ahead};
-pub use fill::{FULL_LEAF, begin_of, leaf_or_new, leaves_from, settled_leaf};
+pub use fill::FULL_LEAF;
 pub use finger::Finger;
+pub use load::{LoadLeaves, leaves_of, leaves_of_halves};
 pub use look::{counts_of, cuts_of};
 pub use place::Place;
 pub use table::{empty_table, put_leaf};

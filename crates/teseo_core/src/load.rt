@@ -15,7 +15,7 @@ ghost use Rattle.teseo_core.specs.Loads.{HasBegunLoad, IsTooMuch, journal_behind
 use crate::store::{Core, name_of};
 use graph_model::{BeginRefusal, Kind, LoadRefusal, TxnName, Write, Writes};
 use leaf_rows::LeafRows;
-use load_order::{sorted_by_threads, sorted_rows};
+use load_order::{sorted_halves, sorted_rows};
 use std::alloc::Global;
 use std::thread::Threads;
 use txn_manager::{RoomRefusal, TxnManager};
@@ -97,7 +97,7 @@ fn end_load(manager: &mut TxnManager, by: TxnName, load: Writes)
     }
 }
 
-/// The rows that the writes of a load leave. Those that they insert are let go of as soon as they are laid.
+/// The rows that the writes of a load leave.
 fn load_rows(
     alloc: Global,
     leaves: u32,
@@ -117,7 +117,7 @@ fn load_rows(
     }
 }
 
-/// The same by several threads.
+/// The same by several threads. The rows that the writes insert are let go of as they are laid.
 fn rows_by_threads<R: Threads + Sync>(
     rt: &R,
     alloc: Global,
@@ -130,8 +130,8 @@ fn rows_by_threads<R: Threads + Sync>(
         AreLoaded leaves (apply_all kind empty_graph load.now) (inserted kind load.now) rows) }
     ensures refused { IfErr result (λ refusal. IsTooMuch leaves (inserted kind load.now) refusal) }
 {
-    let sorted = sorted_by_threads(rt, alloc, kind, load)?;
-    match LeafRows::filled_by_threads(rt, alloc, leaves, kind, load, sorted.as_slice()) {
+    let (front, back) = sorted_halves(rt, alloc, kind, load)?;
+    match LeafRows::filled_by_threads(rt, alloc, leaves, kind, load, front, back) {
         Ok(rows) => Ok(rows),
         Err(RoomRefusal::Full { leaves }) => Err(LoadRefusal::Full { leaves }),
         Err(RoomRefusal::NoMemory) => Err(LoadRefusal::NoMemory),

@@ -89,7 +89,7 @@ impl Core {
         ensures unsettled { record_count self.rows ≡ 0 → self.rows.retired ≡ [] → result.0.settled ≡ true }
     {
         let ran = CoreJournal {
-            settled: count_nothing(totals),
+            settled: are_settled(totals),
             journal: self.manager.into_journal(),
             kind: self.kind,
             leaves: self.leaves,
@@ -102,7 +102,7 @@ impl Core {
 }
 
 /// Whether no record and no retired leaf is counted.
-fn count_nothing(totals: &Totals) -> bool
+fn are_settled(totals: &Totals) -> bool
     ensures { (result ≡ true) ↔ ((totals.now.undo ≡ 0) × (totals.now.retired ≡ 0)) }
 {
     totals.undo == 0 && totals.retired == 0

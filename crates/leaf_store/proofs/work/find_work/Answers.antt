@@ -1,5 +1,4 @@
-use Rattle.std.proofs.Common.{◌<◌, Some, refl, sym, subst}
-use Rattle.std.proofs.lemmas.Option.{slice_get_within}
+use Rattle.std.proofs.Common.{◌<◌, refl, sym, subst}
 use Rattle.leaf_store.specs.Queued.{IsTended}
 use Rattle.leaf_store.proofs.PassLemmas.{fewer_looks, looks_left}
 use Rattle.leaf_store.proofs.WorkLemmas.{all_done, tended_passed}
