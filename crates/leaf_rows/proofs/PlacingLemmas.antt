@@ -1,5 +1,5 @@
 -- Steps that make places for rows, one behind the other.
-use Rattle.std.proofs.Common.{◌≡◌, ℕ, zero, suc, ◌+◌, ◌*◌, ◌<◌, ◌≤◌, List, [], ◌∷◌, refl, sym, ◌∙◌, ap, subst, inl, inr, Some, None}
+use Rattle.std.proofs.Common.{◌≡◌, ℕ, zero, suc, ◌*◌, ◌<◌, ◌≤◌, List, [], ◌∷◌, refl, ◌∙◌, ap, subst, inl, inr, Some, None}
 use Rattle.std.specs.Prelude.{Bool, true, false, ◌||◌, Option, Result, Ok, Err, OnOk, IfErr}
 use Rattle.std.specs.List.{list_any}
 use Rattle.graph_model.specs.declared.limits.TheConstants.{SPLIT_ROWS}
@@ -13,7 +13,7 @@ use Rattle.leaf_store.specs.Changes.{IsRoomRefusal}
 use Rattle.leaf_store.specs.Making.{MakesRoom}
 use Rattle.leaf_store.specs.Merging.{FreesRetired}
 use Rattle.leaf_rows.specs.Laying.{IsNoPlace, wanted}
-use Rattle.leaf_rows.specs.Placing.{FindsPlaces, FreesBetween, MakesPlace, MakesPlaces, PlacesKeys, PlacesOrFrees}
+use Rattle.leaf_rows.specs.Placing.{FreesBetween, MakesPlace, MakesPlaces, PlacesKeys, PlacesOrFrees}
 use Rattle.leaf_rows.specs.Steps.{keys_with}
 use Rattle.leaf_rows.proofs.RoomLemmas.{wanted_swap}
 

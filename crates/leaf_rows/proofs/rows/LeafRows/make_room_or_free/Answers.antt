@@ -1,6 +1,5 @@
 use Rattle.std.proofs.Common.{sym, ◌∙◌}
 use Rattle.leaf_rows.proofs.RoomLemmas.{none_freed, none_left, spent_err}
-use Rattle.leaf_rows.proofs.PlacingLemmas.{places_freed, places_or}
 use Rattle.leaf_rows.proofs.rows.LeafRows.make_room_or_free.Goals as goal
 
 pub returns-then-free_retired-eq0-clause-spent : goal.returns-then-free_retired-eq0-clause-spent
