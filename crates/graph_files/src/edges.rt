@@ -5,7 +5,7 @@
 //! 2. Only where that fails it is gone over again, line by line from the first doubtful one on, and the first fault is
 //!    told. Both ways have the same contract.
 //! 3. Threads share the first reading and the comparison of edges alone: which fault is the first is a question of
-//!    order.
+//!    order. The first reading needs no ids, so it may come before they are known.
 
 ghost use Rattle.std.specs.Prelude.{◌≡◌, true, Ok, IfOk, IfErr};
 ghost use Rattle.std.specs.Bool.{OnTrue};
@@ -16,9 +16,7 @@ ghost use Rattle.graph_files.specs.EdgeFiles.{Rules, arcs_of, edge_of, edges_of}
 ghost use Rattle.graph_files.specs.Kept.{AreNew, IsCheckedBy, IsFront, every_id};
 
 use crate::checks::Checks;
-use crate::faultless::{
-    Front, are_new, are_new_by_threads, faultless_front, read_front, read_lines,
-};
+use crate::faultless::{Front, are_new, are_new_by_threads, faultless_front, read_lines};
 use crate::listings::read_rest;
 use crate::refusal::ReadRefusal;
 use crate::room::lines_of;
@@ -52,24 +50,25 @@ pub fn read_edges(
     check(alloc, text, front, is_new, &checks)
 }
 
-/// The same, where several threads go over the text. It is gone over once more by one thread where a line has a fault
-/// by itself.
-pub fn read_edges_by_threads<R: Threads + Sync>(
+/// The same, where each line has been read by itself, and several threads compare the edges. The text is gone over once
+/// more by one thread where a line has a fault.
+pub fn edges_of_front<R: Threads + Sync>(
     rt: &R,
     alloc: Global,
     text: &[u8],
+    front: Front,
     ids: &Ids,
     kind: Kind,
     weights: Weights,
     limit: u64,
 ) -> Result<Edges, ReadRefusal>
-    requires { AreReadable weights }
+    requires readable { AreReadable weights }
+    requires front { IsFront (edge_of every_id weights) (field_lines text.now) front }
     ensures ok { IfOk result (λ edges.
         edges_of (record { ids = ids.now; kind = kind; weights = weights; limit = limit }) text.now ≡ Ok edges) }
     ensures fault { IfErr result (λ refusal. IsRefused
         (edges_of (record { ids = ids.now; kind = kind; weights = weights; limit = limit }) text.now) refusal) }
 {
-    let front = read_front(rt, alloc, text, weights)?;
     let checks = checks_of(alloc, ids, kind, weights, limit)?;
     let is_new = are_new_by_threads(rt, alloc, &front, &checks)?;
     check(alloc, text, front, is_new, &checks)

@@ -6,6 +6,7 @@
 //! 3. A text is lent: nothing of it is copied but what it stands for.
 #![tactic(auto)]
 
+mod beside;
 mod checks;
 mod edges;
 mod ends;
@@ -19,7 +20,9 @@ mod seconds;
 mod vertices;
 mod weights;
 
-pub use edges::{read_edges, read_edges_by_threads};
+pub use beside::read_side_by_side;
+pub use edges::{edges_of_front, read_edges};
+pub use faultless::Front;
 pub use laws::{files_are_loadable, load_is_its_graph, load_is_legal};
 pub use refusal::{Fault, ReadRefusal, What};
 pub use vertices::read_vertices;

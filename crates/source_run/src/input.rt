@@ -10,7 +10,10 @@ ghost use Rattle.std.specs.Prelude.{◌≡◌, ◌≤◌, ◌<◌, ◌++◌, ℕ
 ghost use Rattle.std.specs.List.{AllZip};
 ghost use Rattle.graph_model.specs.declared.limits.TheConstants.{MAX_LOAD_ROWS, MAX_SCRIPTS};
 ghost use Rattle.graph_files.specs.VertexFiles.{vertices_of};
-ghost use Rattle.graph_files.specs.EdgeFiles.{edges_of};
+ghost use Rattle.graph_files.specs.EdgeFiles.{edge_of, edges_of};
+ghost use Rattle.graph_files.specs.Faults.{IsRefused as IsReadRefused};
+ghost use Rattle.graph_files.specs.Kept.{IsFront, every_id};
+ghost use Rattle.graphalytics_io.specs.FieldLines.{field_lines};
 ghost use Rattle.command_words.specs.Words.{taken_names};
 ghost use Rattle.command_words.specs.Views.{run_request, taken_name};
 ghost use Rattle.graph_files.specs.Weights.{AreReadable};
@@ -25,7 +28,7 @@ use crate::fault::{ParseStop, SourceFault};
 use crate::request::{kind_of, script_count, weights_of};
 use command_words::{RunWords, TakenName};
 use desk_io::{Bytes, Sources};
-use graph_files::{ReadRefusal, read_edges_by_threads, read_vertices};
+use graph_files::{Front, ReadRefusal, edges_of_front, read_side_by_side};
 use graph_model::{Ids, MAX_LOAD_ROWS, NoMemory};
 use graphalytics_io::Edges;
 use items::Items;
@@ -67,9 +70,19 @@ pub fn parse_sources<R: Threads + Sync>(
         (IsParseStop (run_request words.now) (texts_of (run_request words.now) sources.now)) }
 {
     let texts = sources.as_slice();
+    let vertices = texts[0].as_slice();
+    let lines = texts[1].as_slice();
+    let (read, front) = read_side_by_side(
+        rt,
+        alloc,
+        vertices,
+        MAX_LOAD_ROWS,
+        lines,
+        weights_of(words),
+    );
     // In the order in which sources are named: the first that isn't accepted is the one that is told.
-    let ids = parse_vertices(alloc, texts[0].as_slice())?;
-    let edges = parse_edges(rt, alloc, texts[1].as_slice(), &ids, words)?;
+    let ids = parse_vertices(vertices, read)?;
+    let edges = parse_edges(rt, alloc, lines, front?, &ids, words)?;
     // Names of the words come first; each script adds those of its results, so a later one can't take them.
     let mut taken = names_taken(alloc, words)?;
     let count = script_count(words);
@@ -83,12 +96,15 @@ pub fn parse_sources<R: Threads + Sync>(
     })
 }
 
-/// Parses the vertex file, the first source.
-fn parse_vertices(alloc: Global, text: &[u8]) -> Result<Ids, ParseStop>
+/// The ids of the vertex file, the first source, where this was read of it. The text itself only the contract reads.
+fn parse_vertices(text: &[u8], read: Result<Ids, ReadRefusal>) -> Result<Ids, ParseStop>
+    requires ok { IfOk read (λ ids. vertices_of MAX_LOAD_ROWS text.now ≡ Ok ids) }
+    requires fault { IfErr read (λ refusal. IsReadRefused (vertices_of MAX_LOAD_ROWS text.now) refusal) }
     ensures ok { IfOk result (λ ids. vertices_of MAX_LOAD_ROWS text.now ≡ Ok ids) }
     ensures refused { IfErr result (IsGraphStop 0 (vertices_of MAX_LOAD_ROWS text.now)) }
 {
-    match read_vertices(alloc, text, MAX_LOAD_ROWS) {
+    let _ = text;
+    match read {
         Ok(ids) => Ok(ids),
         Err(ReadRefusal::Fault(fault)) => Err(ParseStop::NotAccepted {
             place: 0,
@@ -98,22 +114,25 @@ fn parse_vertices(alloc: Global, text: &[u8]) -> Result<Ids, ParseStop>
     }
 }
 
-/// Parses the edge file, the second source, by several threads.
+/// Parses the edge file, the second source, by several threads, where each line was read by itself.
 fn parse_edges<R: Threads + Sync>(
     rt: &R,
     alloc: Global,
     text: &[u8],
+    front: Front,
     ids: &Ids,
     words: &RunWords<'_>,
 ) -> Result<Edges, ParseStop>
-    requires { AreReadable (weights_of (run_request words.now)) }
+    requires readable { AreReadable (weights_of (run_request words.now)) }
+    requires front { IsFront (edge_of every_id (weights_of (run_request words.now))) (field_lines text.now) front }
     ensures ok { IfOk result (λ edges. edges_of (rules_of (run_request words.now) ids.now) text.now ≡ Ok edges) }
     ensures refused { IfErr result (IsGraphStop 1 (edges_of (rules_of (run_request words.now) ids.now) text.now)) }
 {
-    match read_edges_by_threads(
+    match edges_of_front(
         rt,
         alloc,
         text,
+        front,
         ids,
         kind_of(words),
         weights_of(words),

@@ -1,8 +1,10 @@
 use Rattle.std.proofs.Common.{◌≡◌, ◌≤◌, get_or, length, ◌∙◌, ap, sym, subst, arith}
-use Rattle.std.specs.Prelude.{Ok}
+use Rattle.std.specs.Prelude.{Ok, IfOk}
+use Rattle.graphalytics_io.specs.FieldLines.{field_lines}
 use Rattle.graph_model.specs.declared.limits.TheConstants.{MAX_LOAD_ROWS}
 use Rattle.graph_files.specs.VertexFiles.{vertices_of}
-use Rattle.graph_files.specs.EdgeFiles.{edges_of}
+use Rattle.graph_files.specs.EdgeFiles.{edge_of, edges_of}
+use Rattle.graph_files.specs.Kept.{IsFront, every_id}
 use Rattle.source_run.specs.Input.{texts_of, AreScripts}
 use Rattle.command_words.specs.Views.{run_request}
 use Rattle.source_run.specs.Requests.{rules_of}
@@ -13,8 +15,8 @@ use Rattle.source_run.proofs.input.parse_sources.Goals as goal
 pub returns-in_err-scripts-clause-refused : goal.returns-in_err-scripts-clause-refused
 returns-in_err-scripts-clause-refused g c =
     let request = run_request c.args.words.now in
-    let first = text_is c.args.sources.now c.as_slice-texts.result.now 0 _ c.index-texts-0.result c.as_slice-texts.ensures (omega (arith, c.requires.texts)) (c.as_slice.ensures ∙ c.index-texts-0.is) in
-    let second = text_is c.args.sources.now c.as_slice-texts.result.now 1 _ c.index-texts-1.result c.as_slice-texts.ensures (omega (arith, c.requires.texts)) (c.as_slice-2.ensures ∙ c.index-texts-1.is) in
+    let first = text_is c.args.sources.now c.as_slice-texts.result.now 0 _ c.index-texts-0.result c.as_slice-texts.ensures (omega (arith, c.requires.texts)) (c.as_slice-vertices.ensures ∙ c.index-texts-0.is) in
+    let second = text_is c.args.sources.now c.as_slice-texts.result.now 1 _ c.index-texts-1.result c.as_slice-texts.ensures (omega (arith, c.requires.texts)) (c.as_slice-lines.ensures ∙ c.index-texts-1.is) in
     handed_on _ _ _ c.from_residual-in_err-scripts.ensures.1
     (script_stop request (texts_of request c.args.sources.now) c.in_ok-ids.ids c.in_ok-edges.edges
     (subst (λ t. vertices_of MAX_LOAD_ROWS t ≡ Ok c.in_ok-ids.ids) first c.in_ok-ids.ensures.ok)
@@ -26,8 +28,8 @@ returns-in_err-scripts-clause-refused g c =
 pub returns-in_err-schedule-clause-refused : goal.returns-in_err-schedule-clause-refused
 returns-in_err-schedule-clause-refused g c =
     let request = run_request c.args.words.now in
-    let first = text_is c.args.sources.now c.as_slice-texts.result.now 0 _ c.index-texts-0.result c.as_slice-texts.ensures (omega (arith, c.requires.texts)) (c.as_slice.ensures ∙ c.index-texts-0.is) in
-    let second = text_is c.args.sources.now c.as_slice-texts.result.now 1 _ c.index-texts-1.result c.as_slice-texts.ensures (omega (arith, c.requires.texts)) (c.as_slice-2.ensures ∙ c.index-texts-1.is) in
+    let first = text_is c.args.sources.now c.as_slice-texts.result.now 0 _ c.index-texts-0.result c.as_slice-texts.ensures (omega (arith, c.requires.texts)) (c.as_slice-vertices.ensures ∙ c.index-texts-0.is) in
+    let second = text_is c.args.sources.now c.as_slice-texts.result.now 1 _ c.index-texts-1.result c.as_slice-texts.ensures (omega (arith, c.requires.texts)) (c.as_slice-lines.ensures ∙ c.index-texts-1.is) in
     handed_on _ _ _ c.from_residual-in_err-schedule.ensures.1
     (schedule_stop request (texts_of request c.args.sources.now) c.in_ok-ids.ids c.in_ok-edges.edges
     (subst (λ t. vertices_of MAX_LOAD_ROWS t ≡ Ok c.in_ok-ids.ids) first c.in_ok-ids.ensures.ok)
@@ -53,3 +55,9 @@ returns-clause-listed g c = λ k d lt.
     ∙ ap length (script_texts request.scripts c.script_count-count.result c.as_slice-texts.result.now c.args.sources.now c.script_count-count.ensures c.as_slice-texts.ensures)
     ∙ script_count request c.args.sources.now c.requires.texts in
     subst (λ n. get_or c.in_ok-schedule.schedule k d ≤ n) (sym count) (c.in_ok-schedule.ensures.listed k d lt)
+
+pub parse_edges-requires-clause-front : goal.parse_edges-requires-clause-front
+parse_edges-requires-clause-front g c κs within =
+    let front : IsFront (edge_of every_id c.weights_of.result) (field_lines c.as_slice-lines.result.now) c.in_ok-front.field-0 =
+    subst (λ read. IfOk read (IsFront (edge_of every_id c.weights_of.result) (field_lines c.as_slice-lines.result.now))) c.in_ok-front.was c.read_side_by_side-read.ensures.front in
+    subst (λ weights. IsFront (edge_of every_id weights) (field_lines c.as_slice-lines.result.now) c.in_ok-front.field-0) c.weights_of.ensures front
